@@ -43,6 +43,18 @@ class MeshCounts(Structure):
     _fields_ += [(name, c_size_t) for name in ("creases", "corner_tags", "holes")]
 
 
+class Crease(Structure):
+    """`drillolive_crease`."""
+
+    _fields_ = [("first", c_uint32), ("second", c_uint32), ("sharpness_num", c_uint64), ("sharpness_den", c_uint64)]
+
+
+class CornerTag(Structure):
+    """`drillolive_corner_tag`."""
+
+    _fields_ = [("point", c_uint32), ("sharpness_num", c_uint64), ("sharpness_den", c_uint64)]
+
+
 class TableCounts(Structure):
     """`drillolive_table_counts`."""
 
@@ -137,6 +149,7 @@ FAULT_CALLS = {
 # The accessors of arrays of a handle, which return their address.
 ARRAY_CALLS = (
     ["mesh_face_sizes", "mesh_corners", "mesh_texture_corners"]
+    + ["mesh_creases", "mesh_corner_tags", "mesh_holes"]
     + ["table_starts", "table_indices", "table_doubles", "table_floats", "table_numerators", "table_denominators"]
     + ["points_doubles", "points_floats", "points_numerators", "points_denominators"]
     + ["level_face_sizes", "level_corners", "level_edges", "level_holes"]

@@ -5,15 +5,18 @@ from __future__ import annotations
 from ctypes import byref, c_size_t, c_uint64
 from fractions import Fraction
 from functools import cached_property
+from itertools import accumulate
 from os import PathLike
 from pathlib import Path
-from typing import Any, Iterable
+from typing import Any, Collection, Iterable, Sequence
 
 from ._calls import Handle, call, choice, fault_of, new_handle, whole
-from ._interface import BOUNDARIES, METHODS, SEAMS, SELECTIONS, FaultRecord, Form, MeshCounts
+from ._interface import BOUNDARIES, METHODS, SEAMS, SELECTIONS, CornerTag, Crease, FaultRecord, Form, MeshCounts
 from .arrays import Memory, exact_doubles, indices_of, rows_of
 from .errors import Error, Fault, argument_error
 from .faces import face_memory, faces_in_rows, flat_indices
+from .fans import fans_of, points_of_several_fans
+from .obj_grid import points_on_grid
 from .refined import Refined
 from .rows import LEVEL, LIMIT, PATCH, TEXTURE, Rows
 from .session import Session
@@ -25,6 +28,10 @@ GRID_LIMIT = 126
 
 # What the faults of a mesh by itself have as status. `check` lists these, and raises others.
 MESH_STATUSES = {"mesh", "bad arrays", "too large"}
+
+# The status of a mesh that is no manifold, and its kinds.
+MESH_STATUS = 6
+FEW_CORNERS, REPEATED_POINT, MANY_FACES, ONE_DIRECTION, MANY_FANS = range(5)
 
 
 class Mesh:
@@ -75,15 +82,19 @@ class Mesh:
         holes: Iterable[int] | None = None,
         boundary: str | None = None,
         method: str | None = None,
+        grid_bits: int | None = None,
     ) -> Mesh:
         """Reads a mesh from a file at a path, or from bytes of OBJ text.
 
-        Tags that are given replace those of the text.
+        Tags that are given replace those of the text. With `grid_bits` each coordinate is rounded to a multiple of
+        2^-grid_bits, and `rounded` tells how many of them changed.
 
-        ObjError: a line is not understood. OSError: the file cannot be read.
+        ObjError: a line is not understood. OSError: the file cannot be read. ArgumentError: an argument is wrong.
         """
         text = bytes(source) if isinstance(source, (bytes, bytearray, memoryview)) else Path(source).read_bytes()
         mesh = cls.__new__(cls)
+        if grid_bits is not None:
+            text, mesh.rounded = points_on_grid(text, bits_of(grid_bits))
         mesh._handle = new_handle("mesh", "mesh_new_obj", text, len(text))
         set_tags(mesh._handle, creases, corners, holes, boundary, method)
         return mesh
@@ -113,6 +124,25 @@ class Mesh:
         """The number of the texture value of each corner; empty where the mesh has no texture."""
         return Memory(self._handle.get("texture_corners"), "I", (self.counts.texture_corners,), self._handle).array()
 
+    @property
+    def creases(self) -> list[tuple[int, int, Fraction]]:
+        """The two points and the sharpness of each crease, as they were given. From 10 on a sharpness is infinite."""
+        return [(tag.first, tag.second, sharpness_of(tag)) for tag in self._tags("creases", Crease)]
+
+    @property
+    def corner_tags(self) -> list[tuple[int, Fraction]]:
+        """The point and the sharpness of each corner that was given. From 10 on a sharpness is infinite."""
+        return [(tag.point, sharpness_of(tag)) for tag in self._tags("corner_tags", CornerTag)]
+
+    @cached_property
+    def holes(self) -> Any:
+        """The faces that are holes, as they were given."""
+        return Memory(self._handle.get("holes"), "I", (self.counts.holes,), self._handle).array()
+
+    def _tags(self, name: str, kind: Any) -> Any:
+        count = getattr(self.counts, name)
+        return (kind * count).from_address(self._handle.get(name)) if count else ()
+
     @cached_property
     def faces(self) -> Any:
         """The points of each face: an array (m, k) where all faces have k corners, else a list of tuples."""
@@ -132,15 +162,31 @@ class Mesh:
         """Returns all faults of the mesh: none where it is a manifold that can be refined.
 
         Faces come first: those of fewer than three corners, and then those that repeat a point. Edges follow in the
-        order in which faces name them, and then points. Where an array of the mesh names what is not there, or a count
-        passes its limit, this one fault is returned.
+        order in which faces name them, and then points that join several fans of faces. Points of faces or edges with
+        faults are left out there. Where an array of the mesh names what is not there, or a count passes its limit,
+        this one fault is returned.
         """
         try:
-            return list_faults(self._handle)
+            faults = list_faults(self._handle)
+            return faults + self._unlisted_fans(faults)
         except Error as error:
             if error.fault.status in MESH_STATUSES:
                 return [error.fault]
             raise
+
+    def _unlisted_fans(self, faults: list[Fault]) -> list[Fault]:
+        """Returns the faults of points, which the library lists only if no face and no edge has a fault."""
+        if not faults or faults[-1].kind == MANY_FANS:
+            return []
+        sizes, corners = list(self.face_sizes), list(self.corners)
+        ends = list(accumulate(sizes))
+        touched: set[int] = set()
+        for fault in faults:
+            if fault.kind in (FEW_CORNERS, REPEATED_POINT):
+                touched.update(corners[ends[fault.first] - sizes[fault.first] : ends[fault.first]])
+            else:
+                touched |= {fault.first, fault.second}
+        return fan_faults(corners, fans_of(sizes, corners).firsts(), touched)
 
     def check_table(self, depth: int, text: bytes | str) -> None:
         """Refuses a text that is not exactly the stored table of this mesh at a depth. TableError: it is not."""
@@ -228,10 +274,15 @@ def depth_of(depth: int, least: int = 0) -> int:
     return whole(depth, "depth", least, DEPTH_LIMIT)
 
 
+def bits_of(grid_bits: int) -> int:
+    """Returns the number of bits of a grid. ArgumentError: it is out of range."""
+    return whole(grid_bits, "number of bits of the grid", 0, GRID_LIMIT)
+
+
 def new_mesh(points: Any, faces: Any, grid_bits: int | None) -> tuple[Handle, int]:
     """Returns the handle of a new mesh, and how many of its coordinates were rounded."""
     held, changed = face_memory(faces), c_uint64()
-    bits = None if grid_bits is None else whole(grid_bits, "number of bits of the grid", 0, GRID_LIMIT)
+    bits = None if grid_bits is None else bits_of(grid_bits)
     numbers = rows_of(points, 3, "points", bits)
     words: tuple[Any, ...] = (numbers.memory, numbers.rows, held.record())
     if numbers.form == Form.exact:
@@ -271,6 +322,11 @@ def split_tags(tags: Iterable[Any], width: int, what: str) -> tuple[Memory, Memo
     return indices_of(points, f"point of the {what}"), sharpness
 
 
+def sharpness_of(tag: Crease | CornerTag) -> Fraction:
+    """Returns the sharpness of a tag of the library."""
+    return Fraction(tag.sharpness_num, tag.sharpness_den)
+
+
 def set_texture(mesh: Handle, values: Any, corners: Any) -> None:
     """Sets the texture of a mesh: values (n, 2), and the number of a value for each corner."""
     numbers, indices = rows_of(values, 2, "texture values"), flat_indices(corners, "texture corner")
@@ -279,6 +335,12 @@ def set_texture(mesh: Handle, values: Any, corners: Any) -> None:
         rows = [Fraction(number, numbers.denominator) for number in memory.owner]
         form, memory = Form.doubles, exact_doubles(rows, "texture")
     call(f"mesh_set_texture_{form.name}", mesh, memory, numbers.rows, indices, *indices.shape)
+
+
+def fan_faults(corners: Sequence[int], fans: Sequence[int], left_out: Collection[int]) -> list[Fault]:
+    """Returns the faults of points that join several fans of faces, without those that are left out."""
+    points = points_of_several_fans(corners, fans, left_out)
+    return [fault_of(FaultRecord(MESH_STATUS, MANY_FANS, point, 0)) for point in points]
 
 
 def list_faults(mesh: Handle) -> list[Fault]:

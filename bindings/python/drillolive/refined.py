@@ -4,7 +4,9 @@ from __future__ import annotations
 
 from fractions import Fraction
 from functools import cached_property
-from typing import Any, NamedTuple
+from itertools import islice
+from os import PathLike
+from typing import Any, Iterator, NamedTuple
 
 from ._calls import Handle, new_handle
 from ._interface import Form, LevelCounts
@@ -28,6 +30,11 @@ class Origins(NamedTuple):
 
     kinds: Any
     numbers: Any
+
+
+def rows_in(values: Any) -> list[Any]:
+    """Returns an array, or a list, as a list whose numbers are those of Python."""
+    return values.tolist() if hasattr(values, "tolist") else values
 
 
 class Refined:
@@ -106,6 +113,31 @@ class Refined:
 
     def _array(self, name: str, code: str, *shape: int) -> Any:
         return Memory(self._level.get(name), code, shape, self._level).array()
+
+    # ---- OBJ ----
+
+    def write_obj(self, path: str | PathLike[str]) -> None:
+        """Writes the level as an OBJ file: points and texture as the nearest doubles, and faces without the holes.
+
+        OSError: the file cannot be written.
+        """
+        with open(path, "w", encoding="ascii", newline="\n") as file:
+            file.writelines(self.obj_lines())
+
+    def obj_lines(self) -> Iterator[str]:
+        """Gives the lines of `write_obj`, each with its line feed."""
+        texture = self.uvs
+        yield from (f"v {x!r} {y!r} {z!r}\n" for x, y, z in rows_in(self.points))
+        if texture is not None:
+            yield from (f"vt {u!r} {v!r}\n" for u, v in rows_in(texture.values))
+        values = None if texture is None else iter(rows_in(texture.corners))
+        corners = iter(rows_in(self.corners))
+        for size, is_hole in zip(rows_in(self.face_sizes), rows_in(self.holes)):
+            words = [str(point + 1) for point in islice(corners, size)]
+            if values is not None:
+                words = [f"{point}/{value + 1}" for point, value in zip(words, islice(values, size))]
+            if not is_hole:
+                yield f"f {' '.join(words)}\n"
 
     # ---- Origins ----
 

@@ -171,6 +171,21 @@ class Warnings(unittest.TestCase):
         ]
         self.assert_warnings(cases)
 
+    def test_creases(self) -> None:
+        quads = TWO_QUADS + "f 1 2 3 4\nf 2 5 6 3\n"
+        line_9 = "line 9: the crease from point"
+        cases = [
+            ("on edges", quads + "t crease 4/1/0 1 2 3 0 2\nt corner 1/1/0 4 1\nt hole 1/0/0 0", None),
+            ("across a face", quads + "t crease 2/1/0 2 0 2", f"{line_9} 3 to point 1 is on no edge and has no effect. "),
+            (
+                "a chain",
+                quads + "t crease 4/3/0 0 1 5 3 2 1 2",
+                f"{line_9} 2 to point 6 is on no edge and has no effect, like 1 more. ",
+            ),
+            ("beside no face", SQUARE + "t crease 2/1/0 0 1 2", "line 5: the crease from point 1 to point 2 is on no edge"),
+        ]
+        self.assert_warnings(cases)
+
     def assert_warnings(self, cases: list[tuple[str, str, str | None]]) -> None:
         for name, text, wanted in cases:
             with self.subTest(name):

@@ -126,6 +126,23 @@ class Tags(unittest.TestCase):
                 changed = made.refine(2).exact() != plain.exact() or any(made.refine(2).holes)
                 self.assertTrue(changed or "interpolateboundary" in line)
 
+    def test_tags_come_back(self) -> None:
+        plain = cube()
+        self.assertEqual((plain.creases, plain.corner_tags, listed(plain.holes)), ([], [], []))
+        creases = [(0, 1, 2.5), (6, 7, 0.0), (1, 0, float("inf"))]
+        made = cube(creases=creases, corners=[(3, 0.125)], holes=[4, 1])
+        half = Fraction(5, 2)
+        self.assertEqual(made.creases, [(0, 1, half), (6, 7, 0), (1, 0, 10)])
+        self.assertEqual((made.corner_tags, listed(made.holes)), ([(3, Fraction(1, 8))], [4, 1]))
+        again = cube(creases=made.creases, corners=made.corner_tags, holes=made.holes)
+        self.assertEqual(again.refine(2).exact(), made.refine(2).exact())
+        lines = "t crease 3/2/0 0 1 3 1/3 2\nt corner 1/1/0 3 7/5\nt hole 2/0/0 5 0\n"
+        text = "".join(f"v {x} {y} {z}\n" for x, y, z in CUBE_POINTS)
+        text += "".join("f " + " ".join(str(corner + 1) for corner in face) + "\n" for face in CUBE_FACES)
+        read = drillolive.Mesh.from_obj((text + lines).encode())
+        self.assertEqual(read.creases, [(0, 1, Fraction(1, 3)), (1, 3, 2)])
+        self.assertEqual((read.corner_tags, listed(read.holes)), ([(3, Fraction(7, 5))], [5, 0]))
+
     def test_texture(self) -> None:
         mesh = drillolive.Mesh.from_obj(example("unfolded_cube"))
         base = mesh.refine(0, uv="linear")
@@ -153,6 +170,25 @@ class Text(unittest.TestCase):
                 self.assertEqual(drillolive.Mesh.from_obj(source).refine(1).exact(), wanted)
         with tempfile.TemporaryDirectory() as folder, self.assertRaises(FileNotFoundError):
             drillolive.Mesh.from_obj(Path(folder) / "missing.obj")
+
+    def test_grid(self) -> None:
+        text = b"v 0.3 .5 5/8 # a comment\nv 3/8 1/3 1e0 7\r\nv 2 1e-99999999999 4\nvt 0.3 0\nf 1 2 3\n"
+        mesh = drillolive.Mesh.from_obj(text, grid_bits=2)
+        quarters = [(1, 2, 2), (2, 1, 4), (8, 0, 16)]
+        self.assertEqual(mesh.refine(0).exact(), [tuple(Fraction(number, 4) for number in row) for row in quarters])
+        self.assertEqual(mesh.rounded, 5)
+        long = b"v 0." + b"3" * 50 + b" 0 0\nv 1 0 0\nv 0 1 0\nf 1 2 3\n"
+        with self.assertRaises(drillolive.ObjError):
+            drillolive.Mesh.from_obj(long)
+        third = drillolive.Mesh.from_obj(long, grid_bits=40).refine(0).exact()[0][0]
+        self.assertEqual(third, Fraction(round(Fraction(2**40, 3)), 2**40))
+        with self.assertRaises(drillolive.ObjError) as caught:
+            drillolive.Mesh.from_obj(b"v 0 0 0\nv 1e99 nan x\nf 1 2 1\n", grid_bits=2)
+        self.assertEqual(caught.exception.fault.first, 2)
+        for bits in (-1, 127, 1.5):
+            with self.subTest(bits), self.assertRaises(drillolive.ArgumentError):
+                drillolive.Mesh.from_obj(text, grid_bits=bits)
+        self.assertEqual(drillolive.Mesh.from_obj(text, grid_bits=None).rounded, 0)
 
     def test_examples(self) -> None:
         for name in meshes():

@@ -3,8 +3,10 @@
 from __future__ import annotations
 
 import struct
+import tempfile
 import unittest
 from fractions import Fraction
+from pathlib import Path
 
 from support import cube, example, fractions_of, listed, meshes, nearest
 
@@ -97,6 +99,24 @@ class Levels(unittest.TestCase):
             children = 1 if depth == 0 else 4**depth
             self.assertEqual(listed(level.face_parents), [face for face in range(6) for _ in range(children)])
             self.assertEqual(len(level.point_origins.kinds), level.counts.points)
+
+    def test_obj_text(self) -> None:
+        for name in meshes():
+            with self.subTest(name):
+                level = drillolive.Mesh.from_obj(example(name)).refine(1, uv="corners")
+                words = ["refine", "depth=1", *(["uv=corners"] if level.uvs else [])]
+                answer = drillolive.run(words, example(name))
+                self.assertEqual(answer.status, 0, answer.error)
+                text = "".join(level.obj_lines())
+                for keyword in ("v", "vt"):
+                    rows = [tuple(map(float, row)) for row in fractions_of(text, keyword)]
+                    self.assertEqual(rows, nearest(fractions_of(answer.text, keyword)), keyword)
+                self.assertEqual(faces_of(text), faces_of(answer.text))
+                with tempfile.TemporaryDirectory() as folder:
+                    path = Path(folder) / "level.obj"
+                    level.write_obj(path)
+                    self.assertEqual(path.read_bytes().decode(), text)
+                    self.assertEqual(listed(drillolive.Mesh.from_obj(path).points), listed(level.points))
 
     def test_what_is_made_once(self) -> None:
         level = drillolive.Mesh.from_obj(example("unfolded_cube")).refine(1)

@@ -6,16 +6,11 @@ from collections.abc import Iterable, Iterator, Sequence
 from itertools import islice
 
 from .. import Mesh
-from .._calls import fault_of
-from .._interface import FaultRecord
 from ..errors import Fault
+from ..fans import fans_of
+from ..mesh import FEW_CORNERS, MANY_FACES, MANY_FANS, ONE_DIRECTION, REPEATED_POINT, fan_faults
 from .explain import cause_in_file
-from .fans import fans_of
 from .obj_file import ObjFile
-
-# The status of a mesh that is no manifold, and its kinds.
-MESH_STATUS = 6
-FEW_CORNERS, REPEATED_POINT, MANY_FACES, ONE_DIRECTION, MANY_FANS = range(5)
 
 ORIGIN = (0.0, 0.0, 0.0)
 LISTED = 12  # how many numbers of a long list are named
@@ -50,8 +45,9 @@ def edge_of(one: int, other: int) -> Edge:
 
 
 def judge_faces(count: int, sizes: Sequence[int], corners: Sequence[int]) -> list[Fault]:
-    """Returns the faults that the library lists of faces over so many points, wherever these are."""
-    return Mesh([ORIGIN] * count, (sizes, corners)).check()
+    """Returns the faults of faces over so many points, wherever these are: those of points only if there are no others."""
+    faults = Mesh([ORIGIN] * count, (sizes, corners)).check()
+    return [fault for fault in faults if not is_of(fault, MANY_FANS)] or faults
 
 
 def is_of(fault: Fault, *kinds: int) -> bool:
@@ -78,8 +74,9 @@ def sentences_of_faults(file: ObjFile) -> list[str]:
     faults = without_consequences(faults)
     touched = {point for number in faulty for point in faces[number][0]}
     fans = fans_of(file.face_sizes, file.corners).firsts()
-    faults += unlisted_fans(file, faults, touched, fans)
-    edges = {edge_of(fault.first, fault.second) for fault in faults if is_of(fault, MANY_FACES, ONE_DIRECTION)}
+    if faulty:
+        faults += fan_faults(file.corners, fans, touched.union(*ends_of_edges(faults)))
+    edges = ends_of_edges(faults)
     points = {fault.first for fault in faults if is_of(fault, MANY_FANS)}
     at_edges, at_points = lines_at_edges(kept, edges), lines_of_fans(file, points, fans)
     return [f"{_cause(fault, file, at_edges, at_points)}. {fault.advice}" for fault in faults]
@@ -100,19 +97,9 @@ def without_consequences(faults: Sequence[Fault]) -> list[Fault]:
     ]
 
 
-def unlisted_fans(file: ObjFile, faults: Sequence[Fault], touched: set[int], fans: Sequence[int]) -> list[Fault]:
-    """Returns the faults of points that join several fans, where the library does not list them.
-
-    It lists none where a face or an edge has a fault. Points of such faces, which are touched, are left out, and so are
-    the ends of such edges.
-    """
-    edges = [fault for fault in faults if is_of(fault, MANY_FACES, ONE_DIRECTION)]
-    if not touched and not edges:
-        return []
-    touched = touched | {end for fault in edges for end in (fault.first, fault.second)}
-    first_fans: dict[int, int] = {}
-    several = {point for point, fan in zip(file.corners, fans) if first_fans.setdefault(point, fan) != fan}
-    return [fault_of(FaultRecord(MESH_STATUS, MANY_FANS, point, 0)) for point in sorted(several - touched)]
+def ends_of_edges(faults: Iterable[Fault]) -> set[Edge]:
+    """Returns the edges that have faults, the lesser end of each first."""
+    return {edge_of(fault.first, fault.second) for fault in faults if is_of(fault, MANY_FACES, ONE_DIRECTION)}
 
 
 def lines_at_edges(faces: Iterable[tuple[Sequence[int], int]], edges: set[Edge]) -> dict[Edge, list[int]]:

@@ -2,15 +2,12 @@
 
 from __future__ import annotations
 
-import re
 from collections.abc import Iterable
 from decimal import Decimal, InvalidOperation, localcontext
 from fractions import Fraction
 
+from ..obj_grid import DECIMAL, FRACTION
 from .obj_file import ObjFile, decode, encode
-
-DECIMAL = re.compile(r"[+-]?([0-9]+\.?[0-9]*|\.[0-9]+)([eE][+-]?[0-9]+)?")
-FRACTION = re.compile(r"[+-]?[0-9]+/0*[1-9][0-9]*")
 
 # A numeral that the library reads has at most 37 digits before the point, and `--round` keeps at most 18 behind it.
 LONGEST = 80

@@ -7,7 +7,7 @@ from collections.abc import Callable, Sequence
 from dataclasses import dataclass
 
 from ..errors import Fault, error_of
-from .fans import Fans, fans_of, following_corners
+from ..fans import Fans, fans_of, following_corners
 from .faults import MANY_FACES, ONE_DIRECTION, Edge, edge_of, faces_of, is_of
 
 # Lists the faults of a mesh: the count of its points, and the sizes and the corners of its faces.

@@ -11,9 +11,9 @@ from typing import Union
 
 from .. import Mesh
 from ..errors import Error, ExactOverflowError
+from ..fans import MANY, following_corners, single_sides
 from .explain import cause_in_file
-from .fans import MANY, following_corners, single_sides
-from .faults import lines_of, listed
+from .faults import edge_of, lines_of, listed
 from .numbers import ROUND_LIMIT
 from .obj_edit import rounded_points
 from .obj_file import ObjFile
@@ -32,7 +32,7 @@ def warnings_of(file: ObjFile, depth: int | None) -> list[str]:
 
     Where a depth is given, the mesh has to be a manifold, and is refined to that depth.
     """
-    warnings = [warning for warning in (texture_warning(file), seam_warning(file)) if warning]
+    warnings = [warning for warning in (texture_warning(file), seam_warning(file), crease_warning(file)) if warning]
     return warnings + ([] if depth is None else depth_warnings(file, depth))
 
 
@@ -143,6 +143,39 @@ def open_seams(file: ObjFile) -> list[list[int]]:
         if len(ends) > 1:
             places.setdefault(ends, []).append(sides[side])
     return [corners for corners in places.values() if len(corners) > 1]
+
+
+# ---- Creases ----
+
+
+def crease_warning(file: ObjFile) -> str:
+    """Returns the warning on creases between points that no edge joins, or an empty text."""
+    found = creases_beside_edges(file)
+    if not found:
+        return ""
+    line, (start, end) = found[0]
+    more = f", like {len(found) - 1} more" if len(found) > 1 else ""
+    cause = f"line {line}: the crease from point {start + 1} to point {end + 1} is on no edge and has no effect{more}"
+    return f"{cause}. Name both ends of an edge: a tag counts points from 0, and a face from 1."
+
+
+def creases_beside_edges(file: ObjFile) -> list[tuple[int, tuple[int, int]]]:
+    """Returns each pair of points of a crease that is no edge of a face, with the line of its tag."""
+    pairs = [(line, pair) for line, tag in file.tags for pair in pairs_of_crease(tag.split())]
+    if not pairs:
+        return []
+    following = following_corners(file.face_sizes)
+    edges = {edge_of(point, file.corners[following[corner]]) for corner, point in enumerate(file.corners)}
+    return [(line, pair) for line, pair in pairs if edge_of(*pair) not in edges]
+
+
+def pairs_of_crease(words: list[str]) -> list[tuple[int, int]]:
+    """Returns the pairs of points that the words of a tag make sharp, counted from 0. Other tags have none."""
+    if words[1] != "crease":
+        return []
+    count = int(words[2].partition("/")[0])
+    chain = [int(word) for word in words[3 : 3 + count]]
+    return list(zip(chain, chain[1:]))
 
 
 # ---- Digits ----

@@ -2,7 +2,7 @@
 
 from __future__ import annotations
 
-from collections.abc import Sequence
+from collections.abc import Collection, Sequence
 
 MANY = -1
 
@@ -66,3 +66,13 @@ def fans_of(sizes: Sequence[int], corners: Sequence[int]) -> Fans:
         if side != MANY and opposite != MANY:
             fans.join_sides(side, opposite, following)
     return fans
+
+
+def points_of_several_fans(corners: Sequence[int], fans: Sequence[int], left_out: Collection[int]) -> list[int]:
+    """Returns the points that join more than one fan, without those that are left out.
+
+    `corners` has the point of each corner, and `fans` the first corner of its fan.
+    """
+    firsts: dict[int, int] = {}
+    several = {point for point, fan in zip(corners, fans) if firsts.setdefault(point, fan) != fan}
+    return sorted(several.difference(left_out))
