@@ -31,7 +31,7 @@ fn endings() -> &'static [Ending] {
 const WORDS: &str = "refine depth=1 tags=yes";
 
 // The status of an answer as a digit, and the line that it names.
-fn told(given: &Result<(), FarFault>) -> (u8, Option<u32>) {
+pub fn digit_of(given: &Result<(), FarFault>) -> (u8, Option<u32>) {
     match given {
         Ok(()) => (b'0', None),
         Err(FarFault::Obj { line, .. }) => (b'5', Some(*line)),
@@ -48,10 +48,10 @@ fn expect_status(
     want: (Option<u8>, u32),
 ) {
     let (digit, line) = want;
-    let (status, named) = told(given);
+    let (status, named) = digit_of(given);
     let is_whole = given.is_ok() || written.is_empty();
-    let told = (Some(status), named.unwrap_or(line), is_whole);
-    expect_same(rt, &told, &(digit, line, true), &input);
+    let found = (Some(status), named.unwrap_or(line), is_whole);
+    expect_same(rt, &found, &(digit, line, true), &input);
 }
 
 // A run on this text, with one byte from each read, has this answer and this text.

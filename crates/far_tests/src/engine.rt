@@ -142,7 +142,7 @@ pub fn run_within(
 }
 
 // The answer of a run on a mesh and one more line, and its text in a sink of this capacity.
-pub fn run_alone(
+pub fn run_on_mesh(
     alloc: Global,
     text: &str,
     mesh: &str,
@@ -227,15 +227,15 @@ fn failed_calls() -> &'static [FailedCalls] {
     FAILED_CALLS
 }
 
-fn expect_ended(rt: &impl Abort, given: u8, told: &[u8], held: &[u8], row: &FailedCalls) {
+fn expect_ended(rt: &impl Abort, given: u8, reported: &[u8], held: &[u8], row: &FailedCalls) {
     let &(_, _, _, _, _, status, line, written) = row;
     expect_same(rt, &given, &status, row);
-    expect_same(rt, &told, &line.as_bytes(), row);
+    expect_same(rt, &reported, &line.as_bytes(), row);
     expect_same(rt, &held, &written.as_bytes(), row);
 }
 
 // The program with these words, this source and this sink has the results of the row.
-fn expect_told(
+fn expect_reported(
     rt: &(impl Abort + AllocGlobal),
     words: &Vec<String>,
     source: &mut MemSource,
@@ -257,7 +257,7 @@ fn expect_written(
 ) -> Result<(), Fail> {
     let &(_, _, write, _, room, ..) = row;
     let mut sink = failing_sink(rt.alloc(), room, write)?;
-    expect_told(rt, words, source, &mut sink, row)
+    expect_reported(rt, words, source, &mut sink, row)
 }
 
 fn expect_read(

@@ -2,7 +2,7 @@
 
 ghost use Rattle.std.specs.Prelude.{◌≡◌, ◌<◌};
 
-use crate::engine::{run_alone, words_of};
+use crate::engine::{run_on_mesh, words_of};
 use crate::expect::{expect_answer, expect_same};
 use crate::inputs::{
     CUBE, CUBE_REFINED, CURVED_SHEET, GEN, MOVED_SQUARE, QUARTER_AND_POINTS, REFINE, SQUARE,
@@ -243,7 +243,7 @@ fn expect_each_write(
 
 fn expect_writes(rt: &(impl Abort + AllocGlobal), row: &Writes) -> Result<(), Fail> {
     let &(text, mesh, ..) = row;
-    let (given, sink) = run_alone(rt.alloc(), text, mesh, "", 4096)?;
+    let (given, sink) = run_on_mesh(rt.alloc(), text, mesh, "", 4096)?;
     expect_same(rt, &given, &Ok(()), row);
     expect_each_write(rt, row, sink.bytes())
 }

@@ -1,8 +1,6 @@
-//! Tests the program: whole runs, the streams that they read and write, their words and their faults.
+//! Tests the program: whole runs, their words, their limits, and streams that fail in the middle.
 #![tactic(auto)]
 
-#[cfg(test)]
-mod checks;
 #[cfg(test)]
 mod ends;
 #[cfg(test)]
@@ -10,22 +8,14 @@ mod engine;
 #[cfg(test)]
 mod expect;
 #[cfg(test)]
-mod faults;
-#[cfg(test)]
 mod hostile;
 #[cfg(test)]
 mod inputs;
-#[cfg(test)]
-mod io;
 #[cfg(test)]
 mod limits;
 #[cfg(test)]
 mod moves;
 #[cfg(test)]
-mod readers;
-#[cfg(test)]
 mod runs;
-#[cfg(test)]
-mod texts;
 #[cfg(test)]
 mod words;

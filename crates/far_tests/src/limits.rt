@@ -1,6 +1,5 @@
 // Runs at the limits of counts and of memory, and one past them.
 
-use crate::checks::{one_face, put_text};
 use crate::engine::run_within;
 use crate::expect::expect_same;
 use crate::inputs::LEVELS;
@@ -8,9 +7,13 @@ use crate::runs::expect_run;
 use far_engine::FarFault;
 use level_topology::Counted;
 use obj_tags::ObjCause;
-use std::alloc::Global;
+use std::alloc::{AllocError, Global};
 use std::process::Abort;
 use std::test::Fail;
+
+fn put_text(text: &mut String, piece: String) -> Result<(), AllocError> {
+    text.push_str(piece.as_str())
+}
 
 // The points of a wheel: the hub is point 0, and point k is at k.
 fn push_points(text: &mut String, alloc: Global, spokes: u32) -> Result<(), Fail> {
@@ -144,20 +147,60 @@ fn counts_points_faces_and_lines_past_their_limits(rt: HostRuntime) -> Result<()
     Ok(())
 }
 
-fn expect_face_refused(rt: &(impl Abort + AllocGlobal)) -> Result<(), Fail> {
-    let mesh = one_face(rt.alloc(), 65537)?;
-    let refused = FarFault::TooLarge(Counted::FaceSize {
-        face: 0,
-        size: 65537,
-    });
-    let given = (LEVELS, mesh.as_str(), "");
-    expect_run(rt, given, Err(refused), "", &"a face")
+// This number of lines of points.
+fn points_text(alloc: Global, points: u32) -> Result<String, Fail> {
+    let mut text = String::new(alloc);
+    for _ in 0..points {
+        text.push_str("v 0 0 0\n")?;
+    }
+    Ok(text)
 }
 
-// A face of more than 65,536 corners is refused, with its number of corners.
+// A text with one face of this number of corners.
+fn one_face(alloc: Global, corners: u32) -> Result<String, Fail> {
+    let mut text = points_text(alloc, corners)?;
+    text.push_str("f")?;
+    for v in 0..corners {
+        put_text(&mut text, format!(in alloc; " {}", v as u64 + 1)?)?;
+    }
+    Ok(text)
+}
+
+// The number of corners of one face, and the answer and the text of `levels`.
+type Face = (u32, Result<(), FarFault>, &'static str);
+
+const FACES: &[Face] = &[
+    (
+        65536,
+        Ok(()),
+        "level 0 points 65536 edges 65536 faces 1 euler 1 boundary 65536 holes 0 sharp 0 extraordinary 0\n",
+    ),
+    (
+        65537,
+        Err(FarFault::TooLarge(Counted::FaceSize {
+            face: 0,
+            size: 65537,
+        })),
+        "",
+    ),
+];
+
+fn faces() -> &'static [Face] {
+    FACES
+}
+
+fn expect_face(rt: &(impl Abort + AllocGlobal), row: &Face) -> Result<(), Fail> {
+    let &(corners, answer, written) = row;
+    let mesh = one_face(rt.alloc(), corners)?;
+    expect_run(rt, (LEVELS, mesh.as_str(), ""), answer, written, row)
+}
+
 #[test]
-fn refuses_a_face_of_65537_corners(rt: HostRuntime) -> Result<(), Fail> {
-    expect_face_refused(&rt)
+fn takes_faces_of_65536_corners_and_no_more(rt: HostRuntime) -> Result<(), Fail> {
+    for row in faces() {
+        expect_face(&rt, row)?;
+    }
+    Ok(())
 }
 
 // The number of lines that begin so.

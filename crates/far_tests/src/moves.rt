@@ -1,10 +1,11 @@
 // Runs of `frames`: input that ends early, reads and writes that fail, and lines of the greatest length.
 
+use crate::ends::digit_of;
 use crate::engine::run_within;
 use crate::expect::{expect_answer, expect_same};
 use crate::hostile::{run_read_in_pieces, run_written_in_pieces};
 use crate::inputs::SQUARE;
-use far_engine::{FarFault, status};
+use far_engine::FarFault;
 use obj_tags::ObjCause;
 use std::alloc::Global;
 use std::process::Abort;
@@ -46,15 +47,6 @@ fn session_of(alloc: Global, count: usize) -> Result<(String, String), Fail> {
         added.push_str(answer)?;
     }
     Ok((input, added))
-}
-
-// The status of an answer as a digit, and the line that it names.
-fn digit_of(given: &Result<(), FarFault>) -> (u8, Option<u32>) {
-    match given {
-        Ok(()) => (b'0', None),
-        Err(FarFault::Obj { line, .. }) => (b'5', Some(*line)),
-        Err(fault) => (b'0'.saturating_add(status(fault)), None),
-    }
 }
 
 // A run on this text has this status at this line, and writes the answers of the lines before it, and of this one if it is valid.

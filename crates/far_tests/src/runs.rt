@@ -1,6 +1,6 @@
 // Whole runs: each command, and each kind of fault as a value. `cases/` has other runs on small meshes.
 
-use crate::engine::run_alone;
+use crate::engine::run_on_mesh;
 use crate::expect::expect_answer;
 use crate::inputs::{
     CUBE, CUBE_LEAVES, CUBE_LEVEL, CUBE_REFINED, CURVED_PATCH, CURVED_SHEET, GEN, GREAT_CHART,
@@ -243,7 +243,7 @@ pub fn expect_run(
 ) -> Result<(), Fail> {
     let (text, mesh, line) = given;
     let room = written.len().saturating_add(1);
-    let (given, sink) = run_alone(rt.alloc(), text, mesh, line, room)?;
+    let (given, sink) = run_on_mesh(rt.alloc(), text, mesh, line, room)?;
     let want = (&answer, written.as_bytes());
     expect_answer(rt, &given, sink.bytes(), want, row);
     Ok(())

@@ -1,7 +1,4 @@
 mod FaceLemmas
 mod PlaceLemmas
 mod QuarterLemmas
-mod WheelLemmas
-mod ValueLemmas
 mod StepLemmas
-mod LimitLemmas

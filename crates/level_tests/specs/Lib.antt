@@ -1,5 +1,3 @@
 pub mod Faces
 pub mod Squares
-pub mod Wheel
 pub mod Values
-pub mod Larger

@@ -23,7 +23,7 @@ const INNER: Sharpness = Sharpness::Smooth;
 const OUTER: Sharpness = Sharpness::Infinite;
 
 // The faces of an edge of the only face.
-const ALONE: EdgeFaces = EdgeFaces {
+const ONE_FACE: EdgeFaces = EdgeFaces {
     first: 0,
     second: None,
 };
@@ -52,10 +52,10 @@ fn put_square<L: Ledger>(rows: &mut LevelRows, steps: &mut Steps<L>)
     ensures { rows.new ≡ square_rows }
 {
     rows.put_face(&[0, 1, 2, 3], &[0, 1, 2, 3], false, steps);
-    rows.put_edge(0, 1, ALONE, OUTER);
-    rows.put_edge(1, 2, ALONE, OUTER);
-    rows.put_edge(2, 3, ALONE, OUTER);
-    rows.put_edge(3, 0, ALONE, OUTER);
+    rows.put_edge(0, 1, ONE_FACE, OUTER);
+    rows.put_edge(1, 2, ONE_FACE, OUTER);
+    rows.put_edge(2, 3, ONE_FACE, OUTER);
+    rows.put_edge(3, 0, ONE_FACE, OUTER);
     put_point(rows, 0, (3, 0), (1, 0), INNER, true);
     put_point(rows, 1, (0, 1), (1, 0), INNER, true);
     put_point(rows, 2, (1, 2), (1, 0), INNER, true);
@@ -75,10 +75,10 @@ fn put_quarter<L: Ledger>(rows: &mut LevelRows, steps: &mut Steps<L>)
     ensures { rows.new ≡ quarter_rows }
 {
     rows.put_face(&[0, 3, 1, 2], &[0, 1, 2, 3], false, steps);
-    rows.put_edge(0, 3, ALONE, OUTER);
-    rows.put_edge(3, 1, ALONE, INNER);
-    rows.put_edge(1, 2, ALONE, INNER);
-    rows.put_edge(2, 0, ALONE, OUTER);
+    rows.put_edge(0, 3, ONE_FACE, OUTER);
+    rows.put_edge(3, 1, ONE_FACE, INNER);
+    rows.put_edge(1, 2, ONE_FACE, INNER);
+    rows.put_edge(2, 0, ONE_FACE, OUTER);
     put_point(rows, 0, (0, 3), (0, 1), INNER, false);
     put_point(rows, 2, (1, 2), (1, 0), INNER, false);
     put_point(rows, 3, (2, 3), (1, 0), INNER, false);
@@ -206,11 +206,11 @@ fn expect_square_counted<L: Ledger>(
     expect_square(rt, alloc, &mut Steps::start(blank.open::<L>()))
 }
 
-fn expect_square_alone(rt: &impl Abort, alloc: Global) -> Result<(), Memory> {
+fn expect_made_square(rt: &impl Abort, alloc: Global) -> Result<(), Memory> {
     expect_square_counted::<Brand>(rt, alloc, Blank::new(1))
 }
 
 #[test]
 fn finishes_the_square_and_joins_one_quarter(rt: HostRuntime) -> Result<(), Memory> {
-    expect_square_alone(&rt, rt.alloc())
+    expect_made_square(&rt, rt.alloc())
 }

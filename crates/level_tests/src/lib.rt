@@ -1,7 +1,6 @@
-//! Tests levels and the calls that compute on them, on meshes from tables.
+//! Tests levels: built, shown, joined to their parents, and walked in part.
 //!
-//! They cover facts of faces, rules of selection, sharpness, masks, uniform refinement, values, limit points and patches. A
-//! walk over part of a level is tested too.
+//! A builder of levels makes them from tables. Facts of faces are tested too.
 #![tactic(auto)]
 
 #[cfg(test)]
@@ -11,8 +10,6 @@ mod checked;
 #[cfg(test)]
 mod colliding;
 #[cfg(test)]
-mod edge_rows;
-#[cfg(test)]
 mod expect;
 #[cfg(test)]
 mod face_facts;
@@ -21,28 +18,10 @@ mod fans;
 #[cfg(test)]
 mod levels;
 #[cfg(test)]
-mod limits;
-#[cfg(test)]
-mod mask_tables;
-#[cfg(test)]
 mod meshes;
 #[cfg(test)]
 mod parts_walked;
 #[cfg(test)]
-mod patches;
-#[cfg(test)]
-mod refined;
-#[cfg(test)]
-mod select_rules;
-#[cfg(test)]
-mod sharpness;
-#[cfg(test)]
 mod shown;
 #[cfg(test)]
 mod solids;
-#[cfg(test)]
-mod values;
-#[cfg(test)]
-mod vertex_rows;
-#[cfg(test)]
-mod wheel;

@@ -61,7 +61,7 @@ pub fn finish(builder: LevelBuilder, filled: Result<(), Memory>) -> Result<Level
     builder.finish()
 }
 
-fn build<L: Ledger>(
+fn build_counted<L: Ledger>(
     rt: &impl Abort,
     alloc: Global,
     mesh: &Mesh,
@@ -82,8 +82,8 @@ fn build<L: Ledger>(
     finish(builder, filled)
 }
 
-fn build_alone(rt: &impl Abort, alloc: Global, mesh: &Mesh) -> Result<Level, Memory> {
-    build::<Brand>(rt, alloc, mesh, Blank::new(1))
+fn build_level(rt: &impl Abort, alloc: Global, mesh: &Mesh) -> Result<Level, Memory> {
+    build_counted::<Brand>(rt, alloc, mesh, Blank::new(1))
 }
 
 // Passes the level of a mesh to a test.
@@ -95,6 +95,6 @@ pub fn with_level<E: From<Memory>, F: FnOnce(&Level) -> Result<(), E>>(
 ) -> Result<(), E>
     requires { F.IsAlwaysCallable test }
 {
-    let level = build_alone(rt, alloc, mesh)?;
+    let level = build_level(rt, alloc, mesh)?;
     test(&level)
 }

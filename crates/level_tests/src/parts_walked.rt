@@ -356,11 +356,11 @@ fn expect_all_counted<L: Ledger>(rt: &impl Abort, alloc: Global, blank: Blank) -
 }
 
 // Makes a counter.
-fn expect_all_alone(rt: &impl Abort, alloc: Global) -> Result<(), Memory> {
+fn expect_all_walks(rt: &impl Abort, alloc: Global) -> Result<(), Memory> {
     expect_all_counted::<Brand>(rt, alloc, Blank::new(1))
 }
 
 #[test]
 fn walks_a_quarter_of_the_square(rt: HostRuntime) -> Result<(), Memory> {
-    expect_all_alone(&rt, rt.alloc())
+    expect_all_walks(&rt, rt.alloc())
 }

@@ -1,4 +1,4 @@
-// Solids for tables of masks, and the types of the rows of such tables.
+// Solids of several tests.
 
 // A sharpness as a fraction.
 pub type Fraction = (u64, u64);
@@ -13,29 +13,16 @@ pub struct Solid<'a> {
     pub faces: &'a [&'a [u32]],
 }
 
-// A solid with its sharp edges, and the point whose lists are complete, with its sharpness.
-pub type Mesh = (&'static Solid<'static>, &'static [SharpEdge], u32, Fraction);
-
 pub const ZERO: Fraction = (0, 1);
-
-pub const QUARTER: Fraction = (1, 4);
 
 pub const HALF: Fraction = (1, 2);
 
 pub const ONE: Fraction = (1, 1);
 
-pub const THREE_HALVES: Fraction = (3, 2);
-
-pub const TWO: Fraction = (2, 1);
-
-pub const THREE: Fraction = (3, 1);
-
 pub const INFINITE: Fraction = (10, 1);
 
-// The greatest denominator, and half of it.
+// The greatest denominator.
 pub const TOP: u64 = 1 << 60;
-
-pub const HALF_OF_TOP: u64 = 1 << 59;
 
 // Edge 1 runs from 1 to 3 and has the faces 0 and 4. Point 1 has the ends 0, 3 and 7 and the faces 0, 3 and 4; point 3 has
 // the ends 1, 2 and 5 and the faces 0, 1 and 4.
@@ -81,21 +68,6 @@ pub const RIM_AND_SPOKE: &[SharpEdge] = &[
     (3, 0, INFINITE),
     (1, 4, HALF),
 ];
-
-// Two triangles back to back, and a point without faces.
-pub const PAIR: &Solid<'static> = &Solid {
-    points: 4,
-    faces: &[&[0, 1, 2], &[0, 2, 1]],
-};
-
-// Two faces of ten corners back to back.
-pub const DISC: &Solid<'static> = &Solid {
-    points: 10,
-    faces: &[
-        &[0, 1, 2, 3, 4, 5, 6, 7, 8, 9],
-        &[9, 8, 7, 6, 5, 4, 3, 2, 1, 0],
-    ],
-};
 
 // The points 0 to 3 in a ring, 4 above them and 5 below.
 pub const OCTAHEDRON: &Solid<'static> = &Solid {

@@ -1,4 +1,0 @@
-mod ControlLemmas
-mod RowLemmas
-mod SparseLemmas
-mod StepLemmas

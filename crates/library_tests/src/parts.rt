@@ -3,7 +3,6 @@
 ghost use Rattle.std.specs.Prelude.{◌≡◌, ◌<◌};
 
 use crate::expect::expect_same;
-use crate::inputs::CUBE;
 use level_topology::Level;
 use mesh_check::{CheckFault, check_mesh};
 use obj_tags::{ReadFault, read_obj};
@@ -17,6 +16,11 @@ use std::marker::Brand;
 use std::process::Abort;
 use std::sync::ledger::{Blank, Ledger};
 use std::test::Fail;
+
+// The cube.
+const CUBE: &str = "\
+    v -1 -1 1\nv 1 -1 1\nv -1 1 1\nv 1 1 1\nv -1 1 -1\nv 1 1 -1\nv -1 -1 -1\nv 1 -1 -1\n\
+    f 1 2 4 3\nf 3 4 6 5\nf 5 6 8 7\nf 7 8 2 1\nf 2 8 6 4\nf 7 1 3 5\n";
 
 // The corners of the cube of the text, one face after the other.
 const CUBE_CORNERS: &[u32] = &[

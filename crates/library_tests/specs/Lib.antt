@@ -1,2 +1,0 @@
-pub mod Controls
-pub mod Sparse

@@ -1,0 +1,3 @@
+mod BaseLemmas
+mod RowLemmas
+mod StepLemmas
