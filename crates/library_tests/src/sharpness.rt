@@ -169,8 +169,8 @@ fn tells_rules(rt: HostRuntime) {
         let sharp = vertex_rule(Sharpness::new(1, 2), &ring);
         expect_same(&rt, &sharp, &Rule::Corner, row);
     }
-    let alone = vertex_rule(Sharpness::Smooth, &[]);
-    expect_same(&rt, &alone, &Rule::Corner, &"no edge");
+    let no_edge = vertex_rule(Sharpness::Smooth, &[]);
+    expect_same(&rt, &no_edge, &Rule::Corner, &"no edge");
 }
 
 // The sharpness of a vertex and of its two edges, now and in the next level, and the weight between the rules.
