@@ -20,7 +20,8 @@ output on both streams together. A line `..` is any number of lines, also none. 
 another, at the top of a copy of the tracked files. There `./far` runs the proved program, and `drillolive` the command over the
 library of build/lib. A picture that a command writes with `-o docs/NAME` has to be the file of the repository. A block that is
 fenced with ```python runs there too, by this Python, and has to end without an error. Commands that need the library, or numpy,
-are left out where there is none, and a line says so.
+are left out where there is none, and a line says so. All copies share one copy of crates/ and cases/, so a command that changes a
+file there is a fault.
 
 Blocks that are fenced with ```sh have the commands that are not run. NOT_RUN lists them, each with the reason. Any other command
 in such a block, and a command in a block of another kind, is a fault.
@@ -51,6 +52,7 @@ SECONDS = 300
 MOST_LINES = 40
 ANY_LINES = ".."
 MADE = "docs/reference/"
+SHARED = "cases", "crates"  # the folders with most files, of which all copies share one
 FENCE = re.compile(r"( *)```+ *(\w*)")
 PICTURE = re.compile(r" -o +(docs/\S+)")
 LOOKS_LIKE_A_COMMAND = re.compile(r"\$ |\./far\b|tools/|tests/|bench/|rt |drillolive ")
@@ -251,7 +253,41 @@ def lacks_something(command: Command) -> bool:
     return bool(lacks_library or not HAS_NUMPY and NEEDS_NUMPY.search(command.text))
 
 
-def check_document(name: str, names: List[str], program: Path) -> Tuple[int, List[str]]:
+class SharedFolders:
+    """One copy of the tracked files below SHARED, with the program, to which the copies for the documents link."""
+
+    def __init__(self, names: List[str], program: Path, top: Path) -> None:
+        self.top = top
+        self.others = [name for name in names if not is_shared(name)]
+        copy_files(filter(is_shared, names), top)
+        put_program(program, top)
+        self.states = self.states_now()
+
+    def states_now(self) -> Dict[str, Tuple[int, int]]:
+        """Of each file its size, and when it was changed last."""
+        paths = [Path(folder, name) for folder, _, names in os.walk(self.top) for name in names]
+        stats = [(path, path.lstat()) for path in paths]
+        return {str(path.relative_to(self.top)): (stat.st_size, stat.st_mtime_ns) for path, stat in stats}
+
+    def copy_to(self, folder: Path) -> None:
+        """Copies all other files, and links to the folders."""
+        copy_files(self.others, folder)
+        for name in SHARED:
+            if (self.top / name).is_dir():
+                (folder / name).symlink_to(self.top / name, target_is_directory=True)
+
+    def faults(self) -> List[str]:
+        """A line for each file that was added, changed or removed since the copy was made."""
+        changed = self.states.items() ^ self.states_now().items()
+        return [f"a command of a document changes {name}" for name in sorted({name for name, _ in changed})]
+
+
+def is_shared(name: str) -> bool:
+    """Whether a file is in a folder that all copies share."""
+    return name.split("/")[0] in SHARED
+
+
+def check_document(name: str, shared: SharedFolders) -> Tuple[int, List[str]]:
     """The number of commands of the document that were run, and its faults."""
     commands, faults = read_document(name)
     commands = [command for command in commands if not lacks_something(command)]
@@ -259,8 +295,7 @@ def check_document(name: str, names: List[str], program: Path) -> Tuple[int, Lis
         return 0, faults
     with tempfile.TemporaryDirectory(prefix="documents-") as folder:
         copy = Path(folder)
-        copy_files(names, copy)
-        put_program(program, copy)
+        shared.copy_to(copy)
         for command in commands:
             faults += [f"{name}:{command.line}: $ {command.text}\n{wrong}" for wrong in run_command(command, copy)]
     return len(commands), faults
@@ -268,9 +303,10 @@ def check_document(name: str, names: List[str], program: Path) -> Tuple[int, Lis
 
 def check_commands(documents: List[str], names: List[str], program: Path) -> int:
     """Runs the commands of documents. Prints the faults, or the number of commands, and returns the exit status."""
-    with ThreadPoolExecutor(os.cpu_count()) as pool:
-        outcomes = list(pool.map(lambda name: check_document(name, names, program), documents))
-    faults = [fault for _, found in outcomes for fault in found]
+    with tempfile.TemporaryDirectory(prefix="documents-") as folder, ThreadPoolExecutor(os.cpu_count()) as pool:
+        shared = SharedFolders(names, program, Path(folder))
+        outcomes = list(pool.map(lambda name: check_document(name, shared), documents))
+        faults = [fault for _, found in outcomes for fault in found] + shared.faults()
     if faults:
         print("\n".join(faults))
         return 1

@@ -10,7 +10,6 @@ from typing import Iterable
 from paths import PROGRAM, TOP
 
 
-
 def tracked_files() -> list[str]:
     """The paths of the tracked files below the top that are there."""
     listed = subprocess.run(["git", "ls-files", "-z"], cwd=TOP, stdout=subprocess.PIPE, check=True).stdout
@@ -20,8 +19,10 @@ def tracked_files() -> list[str]:
 
 def copy_files(names: Iterable[str], to: Path) -> None:
     """Copies the files of the top with these names to a folder, and keeps their times and their modes."""
-    for name in names:
-        (to / name).parent.mkdir(parents=True, exist_ok=True)
+    held = list(names)
+    for folder in {(to / name).parent for name in held}:
+        folder.mkdir(parents=True, exist_ok=True)
+    for name in held:
         shutil.copy2(TOP / name, to / name)
 
 

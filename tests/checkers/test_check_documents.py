@@ -24,6 +24,8 @@ $ echo one; echo two
 one
 ..
 $ printf 'a picture' -o docs/picture.svg > docs/picture.svg
+$ cat crates/sums/README.md
+Sums.
 ```
 
 ```python
@@ -38,11 +40,15 @@ git clone example
 
 CLEAN = {
     "crates.txt": "sums:\n",
+    "crates/sums/README.md": "Sums.\n",
     "README.md": "# Title\n\n[Guide](docs/guide/README.md) and ![picture](docs/picture.svg)\n",
     "docs/guide/README.md": GUIDE,
     "docs/picture.svg": "a picture",
     "docs/reference/laws.md": "# Laws\n\n## limit_laws\n\n```console\n$ false\n```\n\n[Guide](../guide/README.md)\n",
 }
+
+READING = "cat crates/sums/README.md\nSums."
+CHANGES = "a command of a document changes crates/sums/"
 
 # A document, a text in it, what takes its place, and how the first line begins that the checker has to print.
 PLANTS = [
@@ -54,9 +60,13 @@ PLANTS = [
     ("docs/guide/README.md", "one\n..", "two\n..", "docs/guide/README.md:9: $ echo one; echo two"),
     ("docs/guide/README.md", "..\n", "", "docs/guide/README.md:9: $ echo one; echo two"),
     ("docs/guide/README.md", "a picture' -o", "other' -o", "docs/guide/README.md:12: $ printf 'other' -o docs/picture.svg"),
-    ("docs/guide/README.md", "1 + 1 == 2", "1 + 1 == 3", "docs/guide/README.md:16: $ "),
-    ("docs/guide/README.md", "git clone", "unheard of", "docs/guide/README.md:20: is not checked: unheard of example"),
-    ("docs/guide/README.md", "```sh\ngit", "```text\n$ git", "docs/guide/README.md:20: is not checked: git clone example"),
+    ("docs/guide/README.md", "Sums.", "Products.", "docs/guide/README.md:13: $ cat crates/sums/README.md"),
+    ("docs/guide/README.md", READING, "echo > crates/sums/README.md", CHANGES + "README.md"),
+    ("docs/guide/README.md", READING, "rm crates/sums/README.md", CHANGES + "README.md"),
+    ("docs/guide/README.md", READING, "touch crates/sums/new", CHANGES + "new"),
+    ("docs/guide/README.md", "1 + 1 == 2", "1 + 1 == 3", "docs/guide/README.md:18: $ "),
+    ("docs/guide/README.md", "git clone", "unheard of", "docs/guide/README.md:22: is not checked: unheard of example"),
+    ("docs/guide/README.md", "```sh\ngit", "```text\n$ git", "docs/guide/README.md:22: is not checked: git clone example"),
 ]
 
 
@@ -89,8 +99,8 @@ class CheckDocuments(unittest.TestCase):
     def test_clean(self) -> None:
         with copy_with(CLEAN) as top:
             status, lines = check(top)
-            self.assertEqual((status, lines[-1]), (0, "3 commands of 1 documents: no fault"))
-            self.assertEqual(check(top, "--links"), (0, ["3 documents, 0 links that lead nowhere"]))
+            self.assertEqual((status, lines[-1]), (0, "4 commands of 1 documents: no fault"))
+            self.assertEqual(check(top, "--links"), (0, ["4 documents, 0 links that lead nowhere"]))
 
     def test_plants(self) -> None:
         for (_, _, _, line), (status, lines) in in_parallel(outcome, PLANTS):
