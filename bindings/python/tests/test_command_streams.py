@@ -9,7 +9,9 @@ import stat
 import subprocess
 import time
 import unittest
+from collections.abc import Callable
 from pathlib import Path
+from unittest import mock
 
 from command_runs import FolderTest, run_here, start
 from support import EXAMPLES
@@ -121,12 +123,28 @@ class Interrupts(FolderTest):
         words = ["refine", "-d", 6, DOG, "-o", self.folder / "out.obj"]
         process = start(*words, stderr=subprocess.PIPE)
         began = time.monotonic()
-        while not self.names() and time.monotonic() - began < PATIENCE:
+        while not self.names() and process.poll() is None and time.monotonic() - began < PATIENCE:
             time.sleep(0.01)
-        self.assertRegex(self.names()[0], r"^\.out\.")
+        # The process stands still while it is looked at, however busy the machine is.
+        process.send_signal(signal.SIGSTOP)
+        self.assertRegex(" ".join(self.names()), r"^\.out\.\S+$")
         process.send_signal(signal.SIGINT)
+        process.send_signal(signal.SIGCONT)
         _, error = process.communicate(timeout=PATIENCE)
         self.assertEqual((process.returncode, error, self.names()), (INTERRUPTED, b"", []))
+
+    def test_ctrl_c_while_the_file_is_made_leaves_none(self) -> None:
+        out = self.file("out.obj", "old")
+        for name in ["open", "close", "chmod"]:
+            made = getattr(os, name)
+
+            def interrupted(*words: object, made: Callable[..., object] = made) -> object:
+                made(*words)
+                raise KeyboardInterrupt
+
+            with self.subTest(name), mock.patch(f"os.{name}", interrupted), self.assertRaises(KeyboardInterrupt):
+                write_output(str(out), [b"new"])
+            self.assertEqual((self.names(), out.read_text()), (["out.obj"], "old"))
 
     def test_ctrl_c_while_work_goes_on_in_a_thread(self) -> None:
         with Progress() as progress, self.assertRaises(KeyboardInterrupt):

@@ -5,8 +5,8 @@ from __future__ import annotations
 import argparse
 import errno
 import os
+import secrets
 import sys
-import tempfile
 from collections.abc import Iterable, Iterator
 from contextlib import contextmanager
 from pathlib import Path
@@ -61,22 +61,22 @@ def whole_file(path: str) -> Iterator[Path]:
         if target.exists() and not target.is_file():
             yield target
             return
-        file = _temporary_file(target)
+        # The name is known before the file is there, so that Ctrl-C at any moment leaves none.
+        file = target.with_name(f".{target.stem}.{secrets.token_urlsafe(6)}{target.suffix}")
         try:
+            _make_empty(file, target)
             yield file
             os.replace(file, target)
         finally:
             file.unlink(missing_ok=True)
 
 
-def _temporary_file(target: Path) -> Path:
-    """Makes an empty file beside the target, with the mode that the target has or would get."""
-    handle, name = tempfile.mkstemp(suffix=target.suffix, prefix=f".{target.stem}.", dir=target.parent)
-    os.close(handle)
-    mask = os.umask(0)
-    os.umask(mask)
-    os.chmod(name, target.stat().st_mode & 0o777 if target.exists() else 0o666 & ~mask)
-    return Path(name)
+def _make_empty(file: Path, target: Path) -> None:
+    """Makes an empty file, with the mode that the target has or would get. Raises FileExistsError where there is one."""
+    mode = target.stat().st_mode & 0o777 if target.exists() else None
+    os.close(os.open(file, os.O_WRONLY | os.O_CREAT | os.O_EXCL, 0o666 if mode is None else mode))
+    if mode is not None:
+        os.chmod(file, mode)
 
 
 @contextmanager
