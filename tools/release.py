@@ -6,9 +6,10 @@
 The gate, `.ci/run`, runs first, over sources that are all committed. Where it passes, `./far --install` installs the proved
 program and library into a folder of their own, and FOLDER gets `drillolive-VERSION-x86_64-linux.tar.xz` of that. The tar has
 one file more, `share/drillolive/release`: the version, the commit and the hash of the sources, the toolchain, the last line of
-the gate, and the SHA-256 of each file. The same commit makes the same tar of the same files.
+the gate, and the SHA-256 of each file. Its file for pkg-config finds the library wherever the tar is unpacked. The same commit
+makes the same tar of the same files.
 
-The exit status is 0 where the tar was written and what it holds ran, and 1 where anything failed, which a line says.
+The exit status is 0 where the tar was written and its program ran, and 1 where anything failed, which a line says.
 """
 
 from __future__ import annotations
@@ -26,6 +27,8 @@ from typing import Any
 from paths import TOP
 
 FACTS = "share/drillolive/release"
+MANIFEST = "share/drillolive/manifest"
+DESCRIPTION = "lib/pkgconfig/drillolive.pc"
 
 
 class Failed(Exception):
@@ -71,8 +74,18 @@ def facts_of(gate_line: str) -> list[str]:
     ]
 
 
+def make_movable(prefix: Path) -> None:
+    """Has pkg-config find the library from where its file is, and not where it was installed first."""
+    path = prefix / DESCRIPTION
+    lines = path.read_text(encoding="utf-8").replace('"', "").splitlines()
+    moved = ["prefix=${pcfiledir}/../.." if line.startswith("prefix=") else line for line in lines]
+    path.write_text("\n".join(moved) + "\n", encoding="utf-8")
+
+
 def write_facts(prefix: Path, facts: list[str]) -> None:
-    """Adds the file of the release to what was installed."""
+    """Adds the file of the release to what was installed, also to the list that an uninstall removes."""
+    with (prefix / MANIFEST).open("a", encoding="utf-8") as listed:
+        listed.write(f"{FACTS}\n")
     files = sorted(path for path in prefix.rglob("*") if path.is_file())
     sums = [f"sha256 {hashlib.sha256(path.read_bytes()).hexdigest()} {path.relative_to(prefix)}" for path in files]
     path = prefix / FACTS
@@ -107,6 +120,7 @@ def try_program(archive: Path, name: str) -> None:
 def make_release(prefix: Path, facts: list[str], seconds: int, folder: Path) -> Path:
     """Packs what was installed with the facts of the release, tries it, and returns the path of the tar."""
     name = f"drillolive-{facts[0].split()[1]}-x86_64-linux"
+    make_movable(prefix)
     write_facts(prefix, facts)
     folder.mkdir(parents=True, exist_ok=True)
     archive = folder / f"{name}.tar.xz"

@@ -31,13 +31,12 @@ from launcher_advice import MOVES, check_terminals
 from paths import TOP
 from reference.outcomes import Outcome, outcome, shown
 from reference.run import OPTIONS, Numbers
-from release import FACTS, make_release
+from release import DESCRIPTION, FACTS, MANIFEST, make_release
 from tracked_files import PROGRAM, copy_files, put_program, tracked_files
 
 NOT_PROVED = re.compile(rb"\./far: this run is not proved[^\n]*\n")
 COMMANDS_OF_THE_LAUNCHER = "bash cat cmp date dirname find flock install ln mkdir mktemp mv readlink rm rmdir sed sleep touch"
 CLOSED_INPUT, FULL_OUTPUT = 'exec "$@" <&-', 'exec "$@" > /dev/full'
-MANIFEST = "share/drillolive/manifest"
 FIXED_FILES = (
     "bin/far lib/libdrillolive.a lib/libdrillolive.so lib/pkgconfig/drillolive.pc include/drillolive.h include/drillolive.hpp "
     "share/man/man1/far.1 bin/drillolive"
@@ -269,9 +268,15 @@ class Launcher:
             packed.append(make_release(release, facts, 1234567890, release.parent / f"{time} folder"))
         with tarfile.open(packed[0]) as tar:
             names = sorted(entry.name for entry in tar.getmembers() if entry.isfile())
-            said = tar.extractfile(f"drillolive-1.2.3-x86_64-linux/{FACTS}").read().decode().splitlines()
+            said, described, listed = (
+                tar.extractfile(f"drillolive-1.2.3-x86_64-linux/{name}").read().decode().splitlines()
+                for name in (FACTS, DESCRIPTION, MANIFEST)
+            )
         wanted = sorted(f"drillolive-1.2.3-x86_64-linux/{name}" for name in [*installed(), MANIFEST, FACTS])
         self.check(f"a release has {names}", names == wanted, (0, b"", b""))
+        moves = "prefix=${pcfiledir}/../.." in described and not any(str(self.copy.parent) in line for line in described)
+        self.check(f"a release says {described}", moves, (0, b"", b""))
+        self.check("a release lists its files", sorted(listed) == sorted([*installed(), FACTS]), (0, b"", b""))
         sums = [line for line in said if line.startswith("sha256 ")]
         self.check("a release says its sums", said[:2] == facts and len(sums) == len(installed()) + 1, (0, b"", b""))
         self.check("a release is the same twice", packed[0].read_bytes() == packed[1].read_bytes(), (0, b"", b""))
