@@ -2,7 +2,7 @@
 use Rattle.std.proofs.Common.{◌≡◌, ℕ, false, List, [], ◌∷◌, ◌++◌, Option, None, Some, refl, ap, sym, ◌∙◌, append_assoc, append-nil}
 use Rattle.std.proofs.lemmas.Option.{none-some}
 use Rattle.subdiv_model.specs.Fault.{Fault}
-use Rattle.far_model.specs.Refusal.{Answer, after_text, then_answer, answer_unless_refused, refused}
+use Rattle.far_model.specs.Refusal.{Answer, after_text, then_answer, answer_unless_refused}
 use Rattle.far_model.specs.Stream.{LineRule, answer_from}
 use Rattle.stream_laws.specs.Handled.{has_lf, IsHandled}
 use Rattle.stream_laws.proofs.PartLemmas.{lines-more}
@@ -69,12 +69,3 @@ handled-more {rule = rule} {lines = lines} {text = text} {line = line} {more = m
       ∙ after-after text more (nothing-more [])
       ∙ after-nothing (text ++ more) None;
 }
-
--- after a line that is refused nothing is answered, whatever follows
-pub refused-at : {rule : LineRule} {lines : List (List ℕ)} {text : List ℕ} (line : List ℕ) (fault : Fault) (end : List (List ℕ) → Answer) (rest : List (List ℕ))
-    → IsHandled rule lines text → rule.line lines line ≡ refused fault
-    → answer_from rule end [] (lines ++ line ∷ rest) ≡ record { text = text; refusal = Some fault }
-refused-at {rule = rule} {lines = lines} {text = text} line fault end rest handled is =
-    handled-then end (line ∷ rest) handled
-    ∙ ap (λ first. after_text text (then_answer first (answer_from rule end (lines ++ line ∷ []) rest))) is
-    ∙ after-nothing text (Some fault)

@@ -1,6 +1,6 @@
 //! Laws of every command that answers line by line: what its lines add, and where the answer ends.
 
-ghost use Rattle.std.specs.Prelude.{◌≡◌, ℕ, ◌<◌, List, [], ◌∷◌, ◌++◌, length, Some, None};
+ghost use Rattle.std.specs.Prelude.{◌≡◌, ℕ, ◌<◌, List, [], ◌∷◌, ◌++◌, length, None};
 ghost use Rattle.subdiv_model.specs.Fault.{Long};
 ghost use Rattle.far_model.specs.Stream.{LineRule, answer_so_far, answer_of_all, answer_of_lines};
 ghost use Rattle.stream_laws.specs.Handled.{IsHandled};
