@@ -1,9 +1,9 @@
 -- Control numbers, creases and terms of masks on small meshes, for the examples.
-use Rattle.std.specs.Prelude.{ℕ, ◌^◌, ℤ, pos, negsuc, List, [], ◌∷◌, ◌++◌, map}
+use Rattle.std.specs.Prelude.{ℕ, ◌^◌, ℤ, pos, negsuc, List, [], ◌∷◌, ◌++◌, map, codes}
 use Rattle.subdiv_model.specs.Level.{Level}
 use Rattle.subdiv_model.specs.ObjMesh.{ObjMesh}
 use Rattle.subdiv_model.specs.Base.{base_level}
-use Rattle.subdiv_model.specs.Mask.{Scheme, CatmullClark, Term, weigh_points, weigh_faces}
+use Rattle.subdiv_model.specs.Mask.{Scheme, CatmullClark, OfPoint, Term, weigh, weigh_points, weigh_faces}
 use Rattle.subdiv_model.specs.Refined.{control_values, refined_values}
 use Rattle.subdiv_model.specs.Channel.{Channel}
 use Rattle.subdiv_model.specs.Examples.{fine_cube}
@@ -22,6 +22,10 @@ cube_z = pos 1 ∷ pos 1 ∷ pos 1 ∷ pos 1 ∷ negsuc 0 ∷ negsuc 0 ∷ negsu
 -- the coordinates of the square in x
 abbrev pub square_x : List ℤ
 square_x = pos 0 ∷ pos 4 ∷ pos 4 ∷ pos 0 ∷ []
+
+-- the coordinates of the square in x after a step, as texts
+abbrev pub refined_square_x : List (List ℕ)
+refined_square_x = codes "1/2" ∷ codes "7/2" ∷ codes "7/2" ∷ codes "1/2" ∷ codes "2" ∷ codes "2" ∷ codes "4" ∷ codes "2" ∷ codes "0" ∷ []
 
 -- the three points of two triangles, as whole numbers
 abbrev pub triangle_points : List (ℤ × ℤ × ℤ)
@@ -51,6 +55,18 @@ fine_channel = record {
 -- terms with one repeated source and one weight of 0
 abbrev pub repeated_terms : List Term
 repeated_terms = weigh_points 2 (5 ∷ 4 ∷ []) ++ (weigh_points 0 (3 ∷ []) ++ (weigh_points 1 (5 ∷ []) ++ weigh_faces 4 (5 ∷ [])))
+
+-- the terms of the mask of vertex 4 of the octahedron of two creases
+abbrev pub octahedron_vertex_terms : List Term
+octahedron_vertex_terms =
+    weigh_points 20 (4 ∷ []) ++ (weigh_points 3 (1 ∷ 0 ∷ []) ++ (weigh_points 1 (2 ∷ 3 ∷ []) ++ weigh_faces 1 (0 ∷ 1 ∷ 2 ∷ 3 ∷ [])))
+
+-- the terms of the patch mask of the middle quad of the sheet at its first corner: 16 for the corner, 4 for each neighbour along an
+-- edge, 1 for each other point of the faces at the corner
+abbrev pub patch_corner_terms : List Term
+patch_corner_terms =
+    weigh 1 (OfPoint 0) ∷ weigh 4 (OfPoint 1) ∷ weigh 1 (OfPoint 2) ∷ weigh 4 (OfPoint 4) ∷ weigh 16 (OfPoint 5) ∷ weigh 4 (OfPoint 6)
+    ∷ weigh 1 (OfPoint 8) ∷ weigh 4 (OfPoint 9) ∷ weigh 1 (OfPoint 10) ∷ []
 
 -- the edges of the face of the cube at z = 1
 abbrev pub cube_ring : List ((ℕ × ℕ) × Sharpness)

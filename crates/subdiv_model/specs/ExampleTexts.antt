@@ -64,3 +64,11 @@ sheet_summary_text = codes "gen points 4 faces 1\nlevel 1 points 9 faces 4 entri
 -- the words of `refine` with each of its options
 abbrev pub all_refine_words : List (List ℕ)
 all_refine_words = codes "refine" ∷ codes "tags=yes" ∷ codes "by=level" ∷ codes "uv=corners" ∷ codes "decimals=18" ∷ codes "depth=10" ∷ []
+
+-- the sparse levels of the square with sharp corners to depth 1: no face is a feature
+abbrev pub sharp_square_sparse_text : List ℕ
+sharp_square_sparse_text = codes "level 0 points 4 faces 1\nv 0 0 0\nv 4 0 0\nv 4 4 0\nv 0 4 0\nf l 0 1 2 3 4\nlevel 1 points 0 faces 0\n"
+
+-- the first lines of the patch of the middle quad of the curved sheet, on a grid of 2
+abbrev pub sheet_patch_start_text : List ℕ
+sheet_patch_start_text = codes "patch face 4 grid 2\ns 0 0 1 1 4/3\ns 1 0 3/2 1 31/12\ns 2 0 2 1 13/3\ns 0 1 1 3/2 4/3\n"

@@ -1,6 +1,6 @@
 -- Places of the faces of level 0, and the leaves of the sparse levels that contain them.
 -- Source: OpenSubdiv's Far layer for maps from a place of a face to its patch; which leaf has a place is Drillolive's.
-use Rattle.std.specs.Prelude.{ℕ, zero, suc, ◌+◌, ◌-◌, ◌*◌, Bool, true, false, not, ◌&&◌, nat_eq, nat_lt, nat_le, List, [], ◌∷◌, ◌++◌, length, map, get_or, codes, if◌then◌else◌}
+use Rattle.std.specs.Prelude.{ℕ, zero, suc, ◌+◌, ◌-◌, ◌*◌, Bool, not, ◌&&◌, nat_eq, nat_lt, nat_le, List, [], ◌∷◌, ◌++◌, length, map, get_or, codes, if◌then◌else◌}
 use Rattle.std.specs.List.{filter, flat_map, range_with_len}
 use Rattle.subdiv_model.specs.Polygons.{polygon_at, is_among}
 use Rattle.subdiv_model.specs.Level.{Level, is_hole}

@@ -2,7 +2,7 @@
 
 ghost use Rattle.std.specs.Prelude.{◌≡◌, ◌^◌, true, false, [], ◌∷◌, ◌++◌};
 ghost use Rattle.subdiv_model.specs.Child.{refined_level};
-ghost use Rattle.subdiv_model.specs.ExampleControls.{cube_ring, repeated_terms};
+ghost use Rattle.subdiv_model.specs.ExampleControls.{cube_ring, octahedron_vertex_terms, repeated_terms};
 ghost use Rattle.subdiv_model.specs.Examples.{corner_cube, cube, cube_of_two_creases, octahedron_of_four_creases, octahedron_of_two_creases, square, tagged_level, two_triangles};
 ghost use Rattle.subdiv_model.specs.Level.{plain_level};
 ghost use Rattle.subdiv_model.specs.Mask.{CatmullClark, Linear, edge_mask, has_means, mask_of, mask_terms, vertex_mask, weigh_faces, weigh_points};
@@ -84,8 +84,7 @@ pub fn edges_of_three_quarters_and_one()
 /// Edges of 1/2 and 3/2 at a vertex of the octahedron. Its mask is half crease, over 8, and half smooth, over 16; the denominator
 /// is twice their least common multiple.
 pub fn crease_and_dart_of_the_octahedron()
-    ensures terms { (vertex_mask octahedron_of_two_creases CatmullClark 4).terms
-        ≡ weigh_points 20 (4 ∷ []) ++ (weigh_points 3 (1 ∷ 0 ∷ []) ++ (weigh_points 1 (2 ∷ 3 ∷ []) ++ weigh_faces 1 (0 ∷ 1 ∷ 2 ∷ 3 ∷ []))) }
+    ensures terms { (vertex_mask octahedron_of_two_creases CatmullClark 4).terms ≡ octahedron_vertex_terms }
     ensures denominator { (vertex_mask octahedron_of_two_creases CatmullClark 4).denominator ≡ 32 }
 {}
 

@@ -1,6 +1,6 @@
 //! Examples and laws of the words, numerals and indices of OBJ text. Each function has an empty body: its clauses are the laws.
 
-ghost use Rattle.std.specs.Prelude.{◌≡◌, ◌-◌, ◌≤◌, ◌^◌, pos, negsuc, true, false, [], ◌∷◌, codes};
+ghost use Rattle.std.specs.Prelude.{◌≡◌, ◌-◌, ◌^◌, pos, negsuc, true, false, [], ◌∷◌, codes};
 ghost use Rattle.subdiv_model.specs.ObjLine.{line_end_of, line_words};
 ghost use Rattle.subdiv_model.specs.Numeral.{is_numeral, is_fraction, normal_form, numeral_form, is_in_range, form_text};
 ghost use Rattle.subdiv_model.specs.ObjWord.{number_over};

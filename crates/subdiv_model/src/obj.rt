@@ -1,6 +1,6 @@
 //! Examples and laws of OBJ texts, their faults and their meshes. Each function has an empty body: its clauses are the laws.
 
-ghost use Rattle.std.specs.Prelude.{◌≡◌, ◌+◌, ◌*◌, ◌≤◌, pos, negsuc, false, true, None, Some, [], ◌∷◌, ◌++◌, codes};
+ghost use Rattle.std.specs.Prelude.{◌≡◌, ◌+◌, pos, negsuc, false, true, None, Some, [], ◌∷◌, ◌++◌, codes};
 ghost use Rattle.subdiv_model.specs.Examples.{cube};
 ghost use Rattle.subdiv_model.specs.ExampleTexts.{cube_text, other_cube_text};
 ghost use Rattle.subdiv_model.specs.Sharpness.{Smooth, Semi, Infinite, Chaikin};

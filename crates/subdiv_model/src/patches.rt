@@ -1,11 +1,12 @@
 //! Examples of patches, each proved by computing.
 
 ghost use Rattle.std.specs.Prelude.{◌≡◌, true, false, [], ◌∷◌, length, take, drop, codes};
-ghost use Rattle.subdiv_model.specs.ExampleControls.{curved_sheet_points};
+ghost use Rattle.subdiv_model.specs.ExampleControls.{curved_sheet_points, patch_corner_terms};
+ghost use Rattle.subdiv_model.specs.ExampleTexts.{sheet_patch_start_text};
 ghost use Rattle.subdiv_model.specs.Examples.{cube, sheet, tagged_level};
 ghost use Rattle.subdiv_model.specs.Fault.{NoFace, NotRegular, Place, fault_line, fault_status};
 ghost use Rattle.subdiv_model.specs.Level.{plain_level};
-ghost use Rattle.subdiv_model.specs.Mask.{OfPoint, is_mean, weigh};
+ghost use Rattle.subdiv_model.specs.Mask.{is_mean};
 ghost use Rattle.subdiv_model.specs.Patch.{has_patch, patch_mask, patch_points, patch_text, place_faults, spline_weights};
 
 /// The middle quad of a sheet of three by three has a patch of all points of the sheet. A quad at the rim has no patch.
@@ -26,13 +27,12 @@ pub fn weights_of_a_patch()
     ensures start { spline_weights 1 0 ≡ 1 ∷ 4 ∷ 1 ∷ 0 ∷ [] }
     ensures end { spline_weights 1 1 ≡ 0 ∷ 1 ∷ 4 ∷ 1 ∷ [] }
     ensures middle { spline_weights 2 1 ≡ 1 ∷ 23 ∷ 23 ∷ 1 ∷ [] }
-    ensures corner { (patch_mask (tagged_level 16 sheet [] []) 4 1 (0, 0)).terms
-        ≡ weigh 1 (OfPoint 0) ∷ weigh 4 (OfPoint 1) ∷ weigh 1 (OfPoint 2) ∷ weigh 4 (OfPoint 4) ∷ weigh 16 (OfPoint 5) ∷ weigh 4 (OfPoint 6) ∷ weigh 1 (OfPoint 8) ∷ weigh 4 (OfPoint 9) ∷ weigh 1 (OfPoint 10) ∷ [] }
+    ensures corner { (patch_mask (tagged_level 16 sheet [] []) 4 1 (0, 0)).terms ≡ patch_corner_terms }
     ensures all { length (patch_mask (tagged_level 16 sheet [] []) 4 2 (1, 1)).terms ≡ 16 }
     ensures mean { is_mean (patch_mask (tagged_level 16 sheet [] []) 4 3 (1, 2)) ≡ true }
 {}
 
 /// The text of the patch of a sheet that is curved along its rows.
 pub fn text_of_a_patch()
-    ensures { take 83 (patch_text (tagged_level 16 sheet [] []) 4 2 1 curved_sheet_points 0) ≡ codes "patch face 4 grid 2\ns 0 0 1 1 4/3\ns 1 0 3/2 1 31/12\ns 2 0 2 1 13/3\ns 0 1 1 3/2 4/3\n" }
+    ensures { take 83 (patch_text (tagged_level 16 sheet [] []) 4 2 1 curved_sheet_points 0) ≡ sheet_patch_start_text }
 {}

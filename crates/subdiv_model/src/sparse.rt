@@ -4,6 +4,7 @@ ghost use Rattle.std.specs.Prelude.{◌≡◌, false, true, None, [], ◌∷◌,
 ghost use Rattle.std.specs.List.{range_with_len};
 ghost use Rattle.subdiv_model.specs.Examples.{cube, creased_cube};
 ghost use Rattle.subdiv_model.specs.ExampleSparse.{all_faces, cornered_strip, counts_at, features, sharp_square, square_controls, strip};
+ghost use Rattle.subdiv_model.specs.ExampleTexts.{sharp_square_sparse_text};
 ghost use Rattle.subdiv_model.specs.Feature.{facts_of, is_feature, is_selectable};
 ghost use Rattle.subdiv_model.specs.Level.{plain_level};
 ghost use Rattle.subdiv_model.specs.Mask.{CatmullClark};
@@ -55,7 +56,7 @@ pub fn texts_of_sparse_levels()
         ≡ codes "level 0 points 8 faces 3\nf s 0 1 2 3 4\nf l 1 2 5 6 3\nf s 2 5 7 8 6\n" }
     ensures points { written_points strip (features strip 1) 0 ≡ 0 ∷ 1 ∷ 5 ∷ 4 ∷ 2 ∷ 6 ∷ 3 ∷ 7 ∷ [] }
     ensures square { sparse_text None (refined_points sharp_square CatmullClark 1 square_controls) sharp_square (features sharp_square 1) 1
-        ≡ codes "level 0 points 4 faces 1\nv 0 0 0\nv 4 0 0\nv 4 4 0\nv 0 4 0\nf l 0 1 2 3 4\nlevel 1 points 0 faces 0\n" }
+        ≡ sharp_square_sparse_text }
 {}
 
 /// The kinds of faces of the strip at depth 1, and of the cube with a hole.

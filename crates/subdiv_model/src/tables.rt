@@ -1,6 +1,6 @@
 //! Examples of stored tables that are read, and of tables that are refused, each proved by computing.
 
-ghost use Rattle.std.specs.Prelude.{◌≡◌, [], ◌∷◌, ◌++◌, Ok, Err, codes};
+ghost use Rattle.std.specs.Prelude.{◌≡◌, [], ◌++◌, codes};
 ghost use Rattle.subdiv_model.specs.ExampleTables.{small_table, small_text, refused_at, read_as};
 ghost use Rattle.subdiv_model.specs.Fault.{Controls, Differs, Table, fault_line, fault_status};
 ghost use Rattle.subdiv_model.specs.ReadTable.{read_table};
@@ -24,7 +24,7 @@ pub fn tables_of_another_form()
     ensures spaces { read_table (codes "table controls  2 rows 1 entries 2\n") ≡ refused_at 1 Form }
     ensures missing { read_table (codes "table controls 2 rows 2 entries 3\ns 4 0 3 1 1\n") ≡ refused_at 3 Form }
     ensures open { read_table (codes "table controls 2 rows 1 entries 2\ns 4 0 3 1 1") ≡ refused_at 2 Form }
-    ensures alone { read_table (codes "table controls 2 rows 1 entries 2\ns 4 0 3 1\n") ≡ refused_at 2 Form }
+    ensures unpaired { read_table (codes "table controls 2 rows 1 entries 2\ns 4 0 3 1\n") ≡ refused_at 2 Form }
     ensures letter { read_table (codes "table controls 2 rows 1 entries 2\ns 0 0 3 1 x\n") ≡ refused_at 2 Form }
 {}
 

@@ -2,7 +2,7 @@
 
 ghost use Rattle.std.specs.Prelude.{◌≡◌, ◌+◌, ◌^◌, true, false, [], ◌∷◌, ◌++◌, get_or, replicate, pos, codes};
 ghost use Rattle.subdiv_model.specs.Channel.{Sharpnesses, Tables, Values, chaikin_overflows_at, channel_faults, greatest_denominator, has_value_overflow, whole_levels, transition_overflows_at};
-ghost use Rattle.subdiv_model.specs.ExampleControls.{cube_ring, cube_x, cube_z, fine_channel, refined_value_texts, square_x};
+ghost use Rattle.subdiv_model.specs.ExampleControls.{cube_ring, cube_x, cube_z, fine_channel, refined_square_x, refined_value_texts, square_x};
 ghost use Rattle.subdiv_model.specs.Examples.{cube, cube_of_two_creases, fine_cube, square, tagged_level, tetrahedron, two_triangles};
 ghost use Rattle.subdiv_model.specs.Fault.{ChaikinOverflow, Overflow, Positions, Texture, TransitionOverflow, ValueOverflow};
 ghost use Rattle.subdiv_model.specs.Fractions.{gcd_of};
@@ -44,7 +44,7 @@ pub fn infinite_crease_on_the_cube()
 
 /// A square whose boundary edges are infinitely sharp: its corner, the point of an edge and the point of the face.
 pub fn open_square_refined_once()
-    ensures { refined_value_texts (tagged_level 4 square [] []) CatmullClark square_x 1 ≡ codes "1/2" ∷ codes "7/2" ∷ codes "7/2" ∷ codes "1/2" ∷ codes "2" ∷ codes "2" ∷ codes "4" ∷ codes "2" ∷ codes "0" ∷ [] }
+    ensures { refined_value_texts (tagged_level 4 square [] []) CatmullClark square_x 1 ≡ refined_square_x }
 {}
 
 /// Two steps: vertex 3 of the cube, and vertex 0 of two triangles back to back.
@@ -108,6 +108,6 @@ pub fn overflows_of_sharpness()
 pub fn faults_of_a_level()
     ensures order { channel_faults Tables fine_channel Positions 1
         ≡ Overflow Positions 1 ChaikinOverflow ∷ Overflow Positions 1 TransitionOverflow ∷ Overflow Positions 1 ValueOverflow ∷ [] }
-    ensures sharpness_alone { channel_faults Sharpnesses (record { base = plain_level 8 cube; scheme = CatmullClark; greatest = 10 ^ 37; common = 1 }) Positions 1 ≡ [] }
+    ensures sharpness_only { channel_faults Sharpnesses (record { base = plain_level 8 cube; scheme = CatmullClark; greatest = 10 ^ 37; common = 1 }) Positions 1 ≡ [] }
     ensures later { channel_faults Values (record { base = tagged_level 4 square [] []; scheme = CatmullClark; greatest = 10 ^ 36; common = 1 }) Texture 2 ≡ Overflow Texture 2 ValueOverflow ∷ [] }
 {}
