@@ -126,10 +126,10 @@ module _ (level : Level) (number : ℕ → ℤ) where
       above m k q h = grind (arith, nat_tests)
 
   -- in either direction the ends have one sum
-  either-way : (e s : ℕ × ℕ) → (e ≡ s) ⊎ (e ≡ (s.1, s.0)) → number s.0 +ℤ number s.1 ≡ number e.0 +ℤ number e.1
-  either-way e s (inl h) = ap (λ (t : ℕ × ℕ). number t.0 +ℤ number t.1) (sym h)
-  either-way e s (inr h) = +ℤ_comm (number s.0) (number s.1) ∙ ap (λ (t : ℕ × ℕ). number t.0 +ℤ number t.1) (sym h)
+  either-direction : (e s : ℕ × ℕ) → (e ≡ s) ⊎ (e ≡ (s.1, s.0)) → number s.0 +ℤ number s.1 ≡ number e.0 +ℤ number e.1
+  either-direction e s (inl h) = ap (λ (t : ℕ × ℕ). number t.0 +ℤ number t.1) (sym h)
+  either-direction e s (inr h) = +ℤ_comm (number s.0) (number s.1) ∙ ap (λ (t : ℕ × ℕ). number t.0 +ℤ number t.1) (sym h)
 
   -- the number of the new point of an edge, named in either direction
   pub number-new : (e : ℕ × ℕ) → is_edge level e ≡ true → next_number level number (point_of level e) ≡ number e.0 +ℤ number e.1
-  number-new e named = number-listed e ∙ either-way e (listed level e) (edge-cases e (listed level e) (listed-same level e named))
+  number-new e named = number-listed e ∙ either-direction e (listed level e) (edge-cases e (listed level e) (listed-same level e named))

@@ -100,7 +100,7 @@ module _ (level : Level) (is : IsSharpAtBoundary level) where
   half-there : (e s t : ℕ × ℕ) (v : ℕ) → is_boundary level.polygons e ≡ true → has_end (point_of level e) t ≡ true
       → is_inside points s ≡ true → has_end v s ≡ true → same_edge t (v, point_of level s) ≡ true
       → (same_edge t (point_of level e, e.0) || same_edge t (point_of level e, e.1)) ≡ true
-  half-there e s t v alone at inside ends same = here (nat_eq v e.0) refl
+  half-there e s t v on_boundary at inside ends same = here (nat_eq v e.0) refl
     where
       old : nat_lt v points ≡ true
       old = end-inside points v s inside ends
@@ -109,7 +109,7 @@ module _ (level : Level) (is : IsSharpAtBoundary level) where
       one = other-half (point_of level e) (point_of level s) v t at same (edge-corner points level.polygons v e old)
 
       alike : same_edge e s ≡ true
-      alike = sym (same-edge-point points level.polygons e s (edge-of-one points level.polygons is.over is.simple e alone).named) ∙ one
+      alike = sym (same-edge-point points level.polygons e s (edge-of-one points level.polygons is.over is.simple e on_boundary).named) ∙ one
 
       to-end : same_edge t (point_of level e, v) ≡ true
       to-end = turned t v (point_of level e) (ap (λ n. same_edge t (v, n)) (eqb-true _ _ one) ∙ same)
@@ -128,16 +128,16 @@ module _ (level : Level) (is : IsSharpAtBoundary level) where
 
   -- the new point of a boundary edge is a crease between the ends of the edge
   pub new-crease : (e : ℕ × ℕ) → is_boundary level.polygons e ≡ true → IsCrease (child_level level) (point_of level e) e.0 e.1
-  new-crease e alone =
-      let one = edge-of-one points level.polygons is.over is.simple e alone in
+  new-crease e on_boundary =
+      let one = edge-of-one points level.polygons is.over is.simple e on_boundary in
       record {
         smooth = new-smooth level (point_of level e) (omega arith);
         apart = one.apart;
-        to_a = turned-boundary e.0 (point_of level e) (child-half e e.0 alone (first-end e));
-        to_b = turned-boundary e.1 (point_of level e) (child-half e e.1 alone (second-end e));
+        to_a = turned-boundary e.0 (point_of level e) (child-half e e.0 on_boundary (first-end e));
+        to_b = turned-boundary e.1 (point_of level e) (child-half e e.1 on_boundary (second-end e));
         rest =
             λ t at none.
-            child-smooth level t is (λ s v inside ends same. absurd (false≢true (sym none ∙ half-there e s t v alone at inside ends same)));
+            child-smooth level t is (λ s v inside ends same. absurd (false≢true (sym none ∙ half-there e s t v on_boundary at inside ends same)));
       }
 
   -- A crease of the level.

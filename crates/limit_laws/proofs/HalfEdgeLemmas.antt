@@ -50,9 +50,9 @@ module _ (points : ℕ) (polygons : List Polygon) (over : is_over points polygon
 
   -- a boundary edge is listed, and goes from a point to another
   pub edge-of-one : (e : ℕ × ℕ) → is_boundary polygons e ≡ true → IsEdgeOfOne points polygons e
-  edge-of-one e alone =
+  edge-of-one e on_boundary =
       let sides = all_sides polygons in
-      let there = boundary-side polygons simple e alone in
+      let there = boundary-side polygons simple e on_boundary in
       let found = any-all (same_edge e) (λ s. list_any (same_side s) sides) sides there (among-themselves sides) in
       let sound = and_parts (is_named points polygons found.0) (is_inside points found.0) (listed-sound points polygons over found.0 found.2) in
       record {
@@ -102,15 +102,15 @@ module _ (points : ℕ) (polygons : List Polygon) (over : is_over points polygon
   -- a half of a boundary edge is a boundary edge
   pub half-boundary : (e : ℕ × ℕ) (v : ℕ) → is_boundary polygons e ≡ true → has_end v e ≡ true
       → is_boundary children (v, edge_point points polygons e) ≡ true
-  half-boundary e v alone ends = here (nat_eq v e.0) refl
+  half-boundary e v on_boundary ends = here (nat_eq v e.0) refl
     where
       is : IsEdgeOfOne points polygons e
-      is = edge-of-one e alone
+      is = edge-of-one e on_boundary
 
       here : (first : Bool) → nat_eq v e.0 ≡ first → is_boundary children (v, edge_point points polygons e) ≡ true
       here true h =
           ap (λ n. is_boundary children (n, edge_point points polygons e)) (eqb-true v e.0 h)
-          ∙ ap (λ n. nat_eq n 1) (first-half e is) ∙ alone
+          ∙ ap (λ n. nat_eq n 1) (first-half e is) ∙ on_boundary
       here false h =
           ap (λ n. is_boundary children (n, edge_point points polygons e)) (eqb-true v e.1 (end-cases v e ends h))
-          ∙ ap (λ n. nat_eq n 1) (second-half e is) ∙ alone
+          ∙ ap (λ n. nat_eq n 1) (second-half e is) ∙ on_boundary

@@ -1,5 +1,5 @@
 -- Every number of steps leaves the limit of a point as it is.
-use Rattle.std.proofs.Common.{◌≡◌, ℕ, zero, suc, ◌+◌, ◌<◌, Bool, true, false, ◌&&◌, nat_eq, ℤ, List, [], ◌∷◌, length, Ok, arith, refl, ap, sym, ◌∙◌, subst}
+use Rattle.std.proofs.Common.{◌≡◌, ℕ, zero, suc, ◌+◌, ◌<◌, true, false, nat_eq, ℤ, List, [], ◌∷◌, length, Ok, arith, refl, ap, sym, ◌∙◌, subst}
 use Rattle.std.specs.List.{list_all, enumerate_from}
 use Rattle.std.proofs.lemmas.Bool.{lt-ltb}
 use Rattle.std.proofs.lemmas.Bool.Decides.{nat_tests}
@@ -19,7 +19,7 @@ use Rattle.number_laws.proofs.CountLemmas.{all-flat_map}
 use Rattle.number_laws.proofs.MultipleLemmas.{product-positive}
 use Rattle.mesh_laws.proofs.FaultLemmas.{all-always}
 use Rattle.mesh_laws.proofs.Laws.{all-simple, manifold-levels}
-use Rattle.level_laws.proofs.WellFormedLemmas.{levels-well-formed}
+use Rattle.level_laws.proofs.WellFormedLemmas.{levels-well-formed, first-of-six}
 use Rattle.mask_laws.specs.Laws.{IsManifoldWithSharpBoundary}
 use Rattle.mask_laws.proofs.BoundaryLemmas.{IsSharpAtBoundary, sharp-levels}
 use Rattle.mask_laws.proofs.MeanLemmas.{means-levels}
@@ -53,9 +53,6 @@ more-quads level k (suc j) h =
     ap (λ n. has_quads (refined_level level n)) same ∙ child-quads (refined_level level (k + j))
 
 -- Manifolds with a sharp boundary.
-
-first-of-six : (a b c d e f : Bool) → (a && b && c && d && e && f) ≡ true → a ≡ true
-first-of-six a b c d e f h = grind (arith, nat_tests)
 
 module _ (level : Level) (well : IsManifoldWithSharpBoundary level) where
   pub level-over : is_over level.point_count level.polygons ≡ true

@@ -10,13 +10,9 @@ use Rattle.number_laws.proofs.MultipleLemmas.{product-positive}
 use Rattle.mask_laws.specs.Laws.{value_of_terms}
 use Rattle.mask_laws.proofs.SumLemmas.{weighted_sum, IsOver, terms-over}
 use Rattle.mask_laws.proofs.JoinedLemmas.{joined-all, joined-sum}
+use Rattle.limit_laws.proofs.CommonOverLemmas.{over-times}
 
 -- Over a multiple the number is as many times as great.
-
--- k times the number over k times as much
-over-more : (k c : ℕ) (x : Value) (n : ℤ) → IsOver c x n → IsOver (k * c) x (pos k *ℤ n)
-over-more k c x n h =
-    sym (pos-assoc k c x.num) ∙ ap (λ z. pos k *ℤ z) h ∙ pos-swap k x.den n
 
 -- the common factor can be removed again
 over-less : (k c : ℕ) (x : Value) (n : ℤ) → 0 < k → IsOver (k * c) x (pos k *ℤ n) → IsOver c x n
@@ -85,7 +81,7 @@ module _ (m : ℕ) (value : SourcePoint → Value) (number : ℕ → ℤ) where
       let once : 1 * m ≡ m = omega arith in
       let sum : pos 1 *ℤ number v +ℤ pos 0 ≡ number v = +ℤ_idr (pos 1 *ℤ number v) ∙ one-times (number v) in
       record {
-        over = over-more 2 m x (number v) (ap (λ c. pos c *ℤ x.num) (sym once) ∙ mask-over terms 1 (h.over, tt) ∙ ap (λ z. pos x.den *ℤ z) sum);
+        over = over-times 2 m x (number v) (ap (λ c. pos c *ℤ x.num) (sym once) ∙ mask-over terms 1 (h.over, tt) ∙ ap (λ z. pos x.den *ℤ z) sum);
         proper = mask-proper terms 1 (omega arith) (h.proper, tt);
       }
 

@@ -11,6 +11,7 @@ use Rattle.subdiv_model.specs.Limit.{lasting_rule, has_semi_sharp, unless_semi_s
 use Rattle.subdiv_model.specs.Fault.{LimitCause, Dart}
 use Rattle.number_laws.proofs.CountLemmas.{one_if, count-cons}
 use Rattle.number_laws.proofs.ListLemmas.{places-from-length}
+use Rattle.mask_laws.proofs.BoundaryLemmas.{is-infinite}
 
 -- Counts.
 
@@ -138,11 +139,6 @@ neither : (s : Sharpness) → is_infinite s ≡ false → is_semi_sharp s ≡ fa
 neither Smooth h k = refl
 neither (Semi num den) h k = absurd (false≢true (sym k))
 neither Infinite h k = absurd (false≢true (sym h))
-
-pub is-infinite : (s : Sharpness) → is_infinite s ≡ true → s ≡ Infinite
-is-infinite Smooth h = absurd (false≢true h)
-is-infinite (Semi num den) h = absurd (false≢true h)
-is-infinite Infinite h = refl
 
 pub limit-kind : (vertex : Sharpness) (ring : List Sharpness) (v : ℕ) (ends opposites : List ℕ) (mask : Mask)
     → limit_of_rule v ends opposites (has_semi_sharp vertex ring) (lasting_rule vertex ring) ≡ Ok mask → HasLimitKind vertex ring

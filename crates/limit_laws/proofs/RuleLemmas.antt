@@ -20,6 +20,7 @@ use Rattle.mesh_laws.proofs.PointLemmas.{boundary-alike}
 use Rattle.mask_laws.proofs.BoundaryLemmas.{IsSharpAtBoundary, is-infinite, sharp-at, boundary-named}
 use Rattle.limit_laws.proofs.CreaseLemmas.{IsCrease}
 use Rattle.limit_laws.proofs.PlaceLemmas.{kept-pass, count-kept, places-mapped, HasTwoPlaces, two-placed, two-count}
+use Rattle.limit_laws.proofs.EdgeStarLemmas.{other-alike}
 
 -- Points and edges that are infinitely sharp.
 
@@ -66,10 +67,6 @@ ring-stays method all (s ∷ ring) h =
 pub same-crease : (i j : ℕ) → same_mask (CreaseRule i j) (CreaseRule i j) ≡ true
 same-crease i j = and_from _ _ (eq-eqb i i refl) (eq-eqb j j refl)
 
--- the other end of an edge from p to a is a
-other-alike : (p a : ℕ) (e : ℕ × ℕ) → same_edge e (p, a) ≡ true → other_end p e ≡ a
-other-alike p a e h = grind (arith, nat_tests)
-
 -- an edge from p goes to a or to b, and not to both
 not-both : (p a b : ℕ) (e : ℕ × ℕ) → nat_eq a b ≡ false
     → one_if (same_edge e (p, a) || same_edge e (p, b)) ≡ one_if (same_edge (p, a) e) + one_if (same_edge (p, b) e)
@@ -108,9 +105,9 @@ module _ (level : Level) (is : IsSharpAtBoundary level) (p a b : ℕ) (crease : 
   -- both are infinitely sharp
   named-infinite : (c : ℕ) → is_boundary level.polygons (p, c) ≡ true → (e : ℕ × ℕ) → same_edge e (p, c) ≡ true
       → edge_sharpness_of level e ≡ Infinite
-  named-infinite c alone e same =
+  named-infinite c on_boundary e same =
       is-infinite (edge_sharpness_of level e)
-      (sharp-at level is.simple is.sharp e (boundary-alike level.polygons is.simple e (p, c) same ∙ alone))
+      (sharp-at level is.simple is.sharp e (boundary-alike level.polygons is.simple e (p, c) same ∙ on_boundary))
 
   along-infinite : (e : ℕ × ℕ) → along e ≡ true → edge_sharpness_of level e ≡ Infinite
   along-infinite e h = here (or_cases (same_edge e (p, a)) (same_edge e (p, b)) h)
@@ -141,16 +138,16 @@ module _ (level : Level) (is : IsSharpAtBoundary level) (p a b : ℕ) (crease : 
 
   -- each of the two is listed once
   once : (c : ℕ) → is_boundary level.polygons (p, c) ≡ true → count_by (same_edge (p, c)) (edges_of level.polygons) ≡ 1
-  once c alone =
-      let there = boundary-named level is.simple (p, c) alone in
+  once c on_boundary =
+      let there = boundary-named level is.simple (p, c) on_boundary in
       omega (arith, first_named-once (p, c) (all_sides level.polygons), count-some (same_edge (p, c)) (edges_of level.polygons) there)
 
   -- the edge is listed once at the point
   once-there : (c : ℕ) → is_boundary level.polygons (p, c) ≡ true → count_by (same_edge (p, c)) (edges_at level p) ≡ 1
-  once-there c alone =
+  once-there c on_boundary =
       count-kept (has_end p) (same_edge (p, c)) (edges_of level.polygons)
       ∙ count-agree (λ e. has_end p e && same_edge (p, c) e) (same_edge (p, c)) (ends-there p c) (edges_of level.polygons)
-      ∙ once c alone
+      ∙ once c on_boundary
 
   -- two edges at the point are sharp
   two-sharp : count_by sharp_at (edges_at level p) ≡ 2
@@ -218,11 +215,11 @@ module _ (level : Level) (is : IsSharpAtBoundary level) (p a b : ℕ) (crease : 
   -- no edge has two places
   never-twice : (c i j : ℕ) → is_boundary level.polygons (p, c) ≡ true → i < j → j < length (edges_at level p)
       → same_edge (edge_at i) (p, c) ≡ true → same_edge (edge_at j) (p, c) ≡ true → ⊥
-  never-twice c i j alone order within first second =
+  never-twice c i j on_boundary order within first second =
       let twice =
       two-count (same_edge (p, c)) (0, 0) (edges_at level p) i j order within
       (same_edge-sym (p, c) (edge_at i) ∙ first) (same_edge-sym (p, c) (edge_at j) ∙ second) in
-      omega (arith, twice, once-there c alone)
+      omega (arith, twice, once-there c on_boundary)
 
   -- the mask of the point is that of a crease between its two neighbours, in one order or the other
   pub crease-vertex : (vertex_mask level CatmullClark p ≡ crease_mask p a b) ⊎ (vertex_mask level CatmullClark p ≡ crease_mask p b a)
@@ -234,9 +231,9 @@ module _ (level : Level) (is : IsSharpAtBoundary level) (p a b : ℕ) (crease : 
       low : places-two.i < length (edges_at level p)
       low = omega (arith, places-two.order, places-two.within)
 
-      between : (c d : ℕ) → same_edge (edge_at places-two.i) (p, c) ≡ true → same_edge (edge_at places-two.j) (p, d) ≡ true
+      mask-of_crease : (c d : ℕ) → same_edge (edge_at places-two.i) (p, c) ≡ true → same_edge (edge_at places-two.j) (p, d) ≡ true
           → vertex_mask level CatmullClark p ≡ crease_mask p c d
-      between c d first second =
+      mask-of_crease c d first second =
           mask-at
           ∙ ap (λ n. crease_mask p n (get_or (ends_at level p) places-two.j 0)) (end-at c places-two.i low first)
           ∙ ap (λ n. crease_mask p c n) (end-at d places-two.j places-two.within second)
@@ -245,6 +242,6 @@ module _ (level : Level) (is : IsSharpAtBoundary level) (p a b : ℕ) (crease : 
           → (same_edge (edge_at places-two.j) (p, a) ≡ true) ⊎ (same_edge (edge_at places-two.j) (p, b) ≡ true)
           → (vertex_mask level CatmullClark p ≡ crease_mask p a b) ⊎ (vertex_mask level CatmullClark p ≡ crease_mask p b a)
       here (inl h) (inl k) = absurd (never-twice a places-two.i places-two.j crease.to_a places-two.order places-two.within h k)
-      here (inl h) (inr k) = inl (between a b h k)
-      here (inr h) (inl k) = inr (between b a h k)
+      here (inl h) (inr k) = inl (mask-of_crease a b h k)
+      here (inr h) (inl k) = inr (mask-of_crease b a h k)
       here (inr h) (inr k) = absurd (never-twice b places-two.i places-two.j crease.to_b places-two.order places-two.within h k)

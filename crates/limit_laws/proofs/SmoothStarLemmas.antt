@@ -144,16 +144,16 @@ module _ (level : Level) (is : IsSharpAtBoundary level) (quads : has_quads level
         sym (list_all-map is_smooth (edge_sharpness_of level) (edges_at level v)) ∙ smooth-ring (ring_at level v) plain.semi none
 
     -- no smooth edge has one face
-    not-alone : (e : ℕ × ℕ) → is_smooth (edge_sharpness_of level e) ≡ true → is_boundary level.polygons e ≡ false
-    not-alone e smooth =
-        false_from_ne_true (is_boundary level.polygons e) (λ alone.
-        let sharp = sharp-at level is.simple is.sharp e alone in
+    not-boundary : (e : ℕ × ℕ) → is_smooth (edge_sharpness_of level e) ≡ true → is_boundary level.polygons e ≡ false
+    not-boundary e smooth =
+        false_from_ne_true (is_boundary level.polygons e) (λ on_boundary.
+        let sharp = sharp-at level is.simple is.sharp e on_boundary in
         false≢true (ap is_infinite_edge (sym (smooth-is (edge_sharpness_of level e) smooth)) ∙ sharp))
 
     away : is_at_boundary level.polygons v ≡ false
     away =
         none-kept (has_end v) (is_boundary level.polygons) (edges_of level.polygons)
-        (all-weaker (λ e. is_smooth (edge_sharpness_of level e)) (λ e. not (is_boundary level.polygons e)) (λ e smooth. ap not (not-alone e smooth)) (edges_at level v) smooth-edges)
+        (all-weaker (λ e. is_smooth (edge_sharpness_of level e)) (λ e. not (is_boundary level.polygons e)) (λ e smooth. ap not (not-boundary e smooth)) (edges_at level v) smooth-edges)
 
     -- each edge at the point has two faces
     two-faces : list_all (λ e. nat_eq (length (faces_of_edge level.polygons e)) 2) (edges_at level v) ≡ true
@@ -162,7 +162,7 @@ module _ (level : Level) (is : IsSharpAtBoundary level) (quads : has_quads level
         (λ e. nat_eq (length (faces_of_edge level.polygons e)) 2) (λ e h.
         let parts = and_parts (is_smooth (edge_sharpness_of level e)) (has_end v e && (is_boundary level.polygons e || nat_eq (length (faces_of_edge level.polygons e)) 2)) h in
         let more = and_parts (has_end v e) (is_boundary level.polygons e || nat_eq (length (faces_of_edge level.polygons e)) 2) parts.1 in
-        or_else (is_boundary level.polygons e) (nat_eq (length (faces_of_edge level.polygons e)) 2) more.1 (not-alone e parts.0))
+        or_else (is_boundary level.polygons e) (nat_eq (length (faces_of_edge level.polygons e)) 2) more.1 (not-boundary e parts.0))
         (edges_at level v)
         (both-pass (λ e. is_smooth (edge_sharpness_of level e)) (λ e. has_end v e && (is_boundary level.polygons e || nat_eq (length (faces_of_edge level.polygons e)) 2)) (edges_at level v) smooth-edges
         (kept-both (has_end v) (λ e. is_boundary level.polygons e || nat_eq (length (faces_of_edge level.polygons e)) 2) (edges_of level.polygons) (one-or-two level.polygons is.simple is.distinct)))

@@ -20,7 +20,7 @@ use Rattle.mesh_laws.proofs.ChildClosedLemmas.{same-pair}
 use Rattle.mesh_laws.proofs.ChildCountLemmas.{is_inside}
 use Rattle.mesh_laws.proofs.ChildOverLemmas.{listed-sound}
 use Rattle.level_laws.proofs.HalfLemmas.{point_of, is_edge}
-use Rattle.mask_laws.proofs.BoundaryLemmas.{IsSharpAtBoundary}
+use Rattle.mask_laws.proofs.BoundaryLemmas.{IsSharpAtBoundary, is-infinite}
 use Rattle.mask_laws.proofs.ListLemmas.{places-below}
 use Rattle.mask_laws.proofs.SumLemmas.{sum_ℤ}
 use Rattle.limit_laws.proofs.PlaceLemmas.{HasTwoPlaces, two-placed}
@@ -30,7 +30,7 @@ use Rattle.limit_laws.proofs.SumExchangeLemmas.{number_if, sum-agree, sum-map}
 use Rattle.limit_laws.proofs.FaceStarLemmas.{sum-read, sum-unnumbered}
 use Rattle.limit_laws.proofs.ChildFaceStarLemmas.{child-opposites}
 use Rattle.limit_laws.proofs.EdgeStarLemmas.{kept-both, sides-listed, child-ends}
-use Rattle.limit_laws.proofs.RingRuleLemmas.{count-map, HasLimitKind, corner, crease, smooth, limit-kind, IsPlain, StaysCorner, plain-stays, is-infinite}
+use Rattle.limit_laws.proofs.RingRuleLemmas.{count-map, HasLimitKind, corner, crease, smooth, limit-kind, IsPlain, StaysCorner, plain-stays}
 use Rattle.limit_laws.proofs.LimitMaskLemmas.{corner-limit, corner-vertex, smooth-limit, smooth-vertex, infinite_at, first_end, second_end, crease-limit, crease-vertex, child-corner, child-plain, plain-count, child-length}
 use Rattle.limit_laws.proofs.SmoothStarLemmas.{all-by, both-pass, listed-own, both-ends, is_smooth, smooth-is, smooth-edges, smooth-star, all-plain}
 use Rattle.limit_laws.proofs.StarRecords.{AreValues, IsSmoothNext}
