@@ -1,5 +1,5 @@
 -- A table in a caller's arrays: the lengths of the arrays, and what they contain.
-use Rattle.std.specs.Prelude.{ℕ, ◌≡◌, ◌+◌, ◌&&◌, Bool, List, nat_le, length, map, take}
+use Rattle.std.specs.Prelude.{ℕ, ◌≡◌, ◌+◌, ◌&&◌, Bool, List, nat_le, length, map, take, drop}
 use Rattle.subdiv_model.specs.Table.{Table, entries_of}
 use Rattle.nearest_arrays.specs.Nearest.{AreNearest}
 use Rattle.flat_arrays.specs.Words.{natural_of}
@@ -51,3 +51,22 @@ pub record AreDoublesWritten (table : Table) (places : DoublePlaces) : Type 0 wh
 pub record AreFloatsWritten (table : Table) (places : FloatPlaces) : Type 0 where
   pub rows : AreRowsWritten table places.starts.now places.indices.now
   pub weights : AreNearest binary32 (fractions_of table.rows) (take (entries_of table.rows) places.weights.now)
+
+-- behind the starts and the entries of these rows the arrays keep their contents
+pub record AreRowRestsKept (counts : TableCounts) (old_starts starts old_indices indices : List ℕ) : Type 0 where
+  pub starts_rest : drop (counts.rows + 1) starts ≡ drop (counts.rows + 1) old_starts
+  pub indices_rest : drop counts.entries indices ≡ drop counts.entries old_indices
+
+-- behind the places of these rows and entries the arrays keep their contents
+pub record IsExactRestKept (counts : TableCounts) (old new : ExactPlaces) : Type 0 where
+  pub rows : AreRowRestsKept counts old.starts.now new.starts.now old.indices.now new.indices.now
+  pub numerators : drop counts.entries new.numerators.now ≡ drop counts.entries old.numerators.now
+  pub denominators : drop counts.rows new.denominators.now ≡ drop counts.rows old.denominators.now
+
+pub record IsDoubleRestKept (counts : TableCounts) (old new : DoublePlaces) : Type 0 where
+  pub rows : AreRowRestsKept counts old.starts.now new.starts.now old.indices.now new.indices.now
+  pub weights : drop counts.entries new.weights.now ≡ drop counts.entries old.weights.now
+
+pub record IsFloatRestKept (counts : TableCounts) (old new : FloatPlaces) : Type 0 where
+  pub rows : AreRowRestsKept counts old.starts.now new.starts.now old.indices.now new.indices.now
+  pub weights : drop counts.entries new.weights.now ≡ drop counts.entries old.weights.now

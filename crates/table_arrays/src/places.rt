@@ -65,10 +65,11 @@ fn are_exact_long_enough(counts: &TableCounts, places: &ExactPlaces) -> bool
 }
 
 /// Writes a table to the front of the arrays, and returns whether it did. It returns `false` and writes nothing if some array
-/// is too short.
+/// is too short. The call leaves later places unchanged.
 pub fn put_exact_table(table: &StencilTable, places: &mut ExactPlaces) -> bool
     ensures long_enough { result ≡ spec.are_exact_long_enough (spec.counts_of table.now) places.old }
     ensures written { result ≡ true → spec.IsExactWritten table.now places.new }
+    ensures rest { spec.IsExactRestKept (spec.counts_of table.now) places.old places.new }
     ensures kept { result ≡ false → places.new ≡ places.old }
     ensures starts { IsSameArray places.old.starts places.new.starts }
     ensures indices { IsSameArray places.old.indices places.new.indices }
@@ -106,10 +107,11 @@ fn are_doubles_long_enough(counts: &TableCounts, places: &DoublePlaces) -> bool
 }
 
 /// Writes a table to the front of the arrays, and returns whether it did. It returns `false` and writes nothing if some array
-/// is too short.
+/// is too short. The call leaves later places unchanged.
 pub fn put_double_table(table: &StencilTable, places: &mut DoublePlaces) -> bool
     ensures long_enough { result ≡ spec.are_doubles_long_enough (spec.counts_of table.now) places.old }
     ensures written { result ≡ true → spec.AreDoublesWritten table.now places.new }
+    ensures rest { spec.IsDoubleRestKept (spec.counts_of table.now) places.old places.new }
     ensures kept { result ≡ false → places.new ≡ places.old }
     ensures starts { IsSameArray places.old.starts places.new.starts }
     ensures indices { IsSameArray places.old.indices places.new.indices }
@@ -145,10 +147,11 @@ fn are_floats_long_enough(counts: &TableCounts, places: &FloatPlaces) -> bool
 }
 
 /// Writes a table to the front of the arrays, and returns whether it did. It returns `false` and writes nothing if some array
-/// is too short.
+/// is too short. The call leaves later places unchanged.
 pub fn put_float_table(table: &StencilTable, places: &mut FloatPlaces) -> bool
     ensures long_enough { result ≡ spec.are_floats_long_enough (spec.counts_of table.now) places.old }
     ensures written { result ≡ true → spec.AreFloatsWritten table.now places.new }
+    ensures rest { spec.IsFloatRestKept (spec.counts_of table.now) places.old places.new }
     ensures kept { result ≡ false → places.new ≡ places.old }
     ensures starts { IsSameArray places.old.starts places.new.starts }
     ensures indices { IsSameArray places.old.indices places.new.indices }
