@@ -15,9 +15,9 @@ pub entries-more : (rows : List Row) (i at len : ℕ) → i < length rows → at
 entries-more rows i = counts-more (λ row. length row.shares) rows i blank
 
 -- the entries of one row more are no more than those of all rows
-pub entries-room : (rows : List Row) (i at len : ℕ) → i < length rows → at ≡ entries_of (take i rows) → len ≡ length (get_or rows i blank).shares →
+pub entries-fit : (rows : List Row) (i at len : ℕ) → i < length rows → at ≡ entries_of (take i rows) → len ≡ length (get_or rows i blank).shares →
     at + len ≤ entries_of rows
-entries-room rows i = counts-room (λ row. length row.shares) rows i blank
+entries-fit rows i = counts-room (λ row. length row.shares) rows i blank
 
 pub entries-all : (rows : List Row) (i at : ℕ) → length rows ≤ i → at ≡ entries_of (take i rows) → at ≡ entries_of rows
 entries-all rows = counts-all (λ row. length row.shares) rows

@@ -2,7 +2,7 @@ use Rattle.std.proofs.Common.{◌+◌, ◌<◌, ◌≤◌, length, arith, sym, �
 use Rattle.nearest_float.specs.Binary.{binary32}
 use Rattle.stencil_apply.specs.Table.{entries_of}
 use Rattle.flat_arrays.proofs.PartLemmas.{part-rest, part-length}
-use Rattle.table_arrays.proofs.FlatLemmas.{entries-more, entries-room, entries-all}
+use Rattle.table_arrays.proofs.FlatLemmas.{entries-more, entries-fit, entries-all}
 use Rattle.table_arrays.proofs.WeightLemmas.{weights-more, weights-all}
 use Rattle.table_arrays.proofs.floats.put_weights32.Goals as goal
 
@@ -13,12 +13,12 @@ loop-row-preserved c =
     let len = c.row_len-len.result in
     let part = c.fill_weights32.new.out in
     let inside : c.loop-row.row < length rows = omega (arith, c.loop-row-test.true, c.rows-row-end.ensures) in
-    let room = entries-room rows c.loop-row.row at len inside c.loop-row.invariant.at c.row_len-len.ensures in
-    let fits : at + len ≤ length c.loop-row.out = omega (arith, room, c.requires.fits, c.loop-row.invariant.len) in
+    let enough = entries-fit rows c.loop-row.row at len inside c.loop-row.invariant.at c.row_len-len.ensures in
+    let fits : at + len ≤ length c.loop-row.out = omega (arith, enough, c.requires.fits, c.loop-row.invariant.len) in
     let short = c.fill_weights32.ensures.len ∙ sym c.row_len-len.ensures in record {
       at = entries-more rows c.loop-row.row at len inside c.loop-row.invariant.at c.row_len-len.ensures;
       written = weights-more binary32 rows c.loop-row.row at len c.loop-row.out part inside fits short c.loop-row.invariant.written c.fill_weights32.ensures.nearest;
-      rest = part-rest (entries_of rows) at len c.loop-row.out part c.args.out.now fits room short c.loop-row.invariant.rest;
+      rest = part-rest (entries_of rows) at len c.loop-row.out part c.args.out.now fits enough short c.loop-row.invariant.rest;
       len = part-length at len c.loop-row.out part fits short ∙ c.loop-row.invariant.len;
     }
 

@@ -3,15 +3,15 @@ use Rattle.std.proofs.lemmas.List.{length-map, take_all}
 use Rattle.stencil_apply.specs.Table.{Share, entries_of, row_at}
 use Rattle.table_arrays.specs.Flat.{indices_of}
 use Rattle.flat_arrays.proofs.PartLemmas.{pieces-more, rest-later}
-use Rattle.table_arrays.proofs.FlatLemmas.{blank, entries-more, entries-room, entries-all}
+use Rattle.table_arrays.proofs.FlatLemmas.{blank, entries-more, entries-fit, entries-all}
 use Rattle.table_arrays.proofs.rows.put_indices.Goals as goal
 
 pub put_items-requires : goal.put_items-requires
 put_items-requires c =
     let inside : c.loop-row.row < length c.args.table.now.rows = omega (arith, c.loop-row-test.true, c.rows-row-end.ensures) in
     let count = ap length c.row_indices-indices.ensures.indices ∙ length-map (row_at c.args.table.now c.loop-row.row).shares (λ (share : Share). share.0) in
-    let room = entries-room c.args.table.now.rows c.loop-row.row c.loop-row.at (length c.row_indices-indices.result.now) inside c.loop-row.invariant.at count in
-    record { fits = omega (arith, room, c.requires.fits, c.loop-row.invariant.len) }
+    let enough = entries-fit c.args.table.now.rows c.loop-row.row c.loop-row.at (length c.row_indices-indices.result.now) inside c.loop-row.invariant.at count in
+    record { fits = omega (arith, enough, c.requires.fits, c.loop-row.invariant.len) }
 
 pub loop-row-preserved : goal.loop-row-preserved
 loop-row-preserved c =
@@ -19,11 +19,11 @@ loop-row-preserved c =
     let indices = c.row_indices-indices.result.now in
     let inside : c.loop-row.row < length rows = omega (arith, c.loop-row-test.true, c.rows-row-end.ensures) in
     let count = ap length c.row_indices-indices.ensures.indices ∙ length-map (row_at c.args.table.now c.loop-row.row).shares (λ (share : Share). share.0) in
-    let room = entries-room rows c.loop-row.row c.loop-row.at (length indices) inside c.loop-row.invariant.at count in record {
+    let enough = entries-fit rows c.loop-row.row c.loop-row.at (length indices) inside c.loop-row.invariant.at count in record {
       at = entries-more rows c.loop-row.row c.loop-row.at (length indices) inside c.loop-row.invariant.at count;
       written = pieces-more (λ row. map (λ share. share.0) row.shares) rows c.loop-row.row blank (take c.loop-row.at c.loop-row.out) indices _ inside
           c.loop-row.invariant.written c.row_indices-indices.ensures.indices c.put_items.ensures.written;
-      rest = rest-later (c.loop-row.at + length indices) (entries_of rows) c.put_items.new.out c.loop-row.out c.args.out.now room c.put_items.ensures.rest c.loop-row.invariant.rest;
+      rest = rest-later (c.loop-row.at + length indices) (entries_of rows) c.put_items.new.out c.loop-row.out c.args.out.now enough c.put_items.ensures.rest c.loop-row.invariant.rest;
       len = c.put_items.ensures.len ∙ c.loop-row.invariant.len;
     }
 

@@ -1,13 +1,13 @@
 use Rattle.std.proofs.Common.{◌+◌, ◌<◌, length, arith, ◌∙◌}
 use Rattle.std.proofs.lemmas.List.{length-set, drop-set-lt}
-use Rattle.table_arrays.proofs.FlatLemmas.{entries-more, entries-room, starts-more, starts-end}
+use Rattle.table_arrays.proofs.FlatLemmas.{entries-more, entries-fit, starts-more, starts-end}
 use Rattle.table_arrays.proofs.rows.put_starts.Goals as goal
 
 pub overflow_add-at : goal.overflow_add-at
 overflow_add-at c =
     let inside : c.loop-row.row < length c.args.table.now.rows = omega (arith, c.loop-row-test.true, c.rows-row-end.ensures) in
-    let room = entries-room c.args.table.now.rows c.loop-row.row c.loop-row.at c.row_len-at.result inside c.loop-row.invariant.at c.row_len-at.ensures in
-    record { fits = omega (arith, room, c.facts.ensures.entries_few) }
+    let enough = entries-fit c.args.table.now.rows c.loop-row.row c.loop-row.at c.row_len-at.result inside c.loop-row.invariant.at c.row_len-at.ensures in
+    record { fits = omega (arith, enough, c.facts.ensures.entries_few) }
 
 pub loop-row-preserved : goal.loop-row-preserved
 loop-row-preserved c =
