@@ -1,30 +1,30 @@
 #!/usr/bin/env python3
-"""Times the commands of the built program on large meshes, some of which are made to take long.
+"""Times the commands of the built program on large meshes, some of which are made to take long, and prints a table.
 
-The script makes each mesh as a text in a temporary folder, mostly at two sizes. The first table has a row for each mesh and
-command, with these columns for the larger size:
+    bench/bench.py                      # the rows of docs/performance.md
+    bench/bench.py --write              # puts them into docs/performance.md
+    bench/bench.py --all --only wheel   # of all rows those whose words and mesh have this text
+    bench/bench.py --quick --program PROGRAM   # small meshes and no instructions, to try a program that is slow
 
-- the faces of the last level; of the mesh where the program refuses it; under `sparse` the present faces of all levels; under
-  `map` the places;
-- the least time of some runs, which are whole processes with reading and writing, and the greatest peak memory;
-- the megabytes that the program writes;
-- the nanoseconds for each face, for each entry of the table where a run makes one of the positions only, and for each byte
-  that the program reads or writes;
-- the exponent with which the time grows with the faces from the smaller size: 1.0 is linear.
+A row is for a command and a mesh:
 
-`apply` and `verify` read the table of depth 3 with the mesh, and their rows have the faces of that level.
+- what is counted: the faces of the last level, or of the mesh where the program refuses it; under `sparse` the present faces of
+  all levels; under `map` the places; the entries of a table; the moves, or the points that a frame writes;
+- the nanoseconds for each that is counted, and for each byte that the program reads or writes. They are of the least time of
+  some runs, which are whole processes with reading and writing;
+- the greatest peak of memory, and its bytes for each that is counted, in brackets at the smaller size;
+- the growth: the exponent with which the time grows with what is counted, from a size that is eight times smaller. 1.0 is linear,
+  and 0.0 is flat. The runs of both sizes take turns, and the smaller size has more of them;
+- the growth of the instructions, from the 64th part of the size to the eighth, or between the two least sizes that the mesh has.
+  They do not vary from run to run, whatever else the machine does. perf counts them, or else valgrind; without both the column
+  is empty.
+
+The sessions of `frames` have a row for what each frame moves. Their growth is that of a frame with the faces of the mesh.
+`apply` and `verify` read the table of depth 3 with the mesh.
 
 The script checks the status, the first line of `levels`, how many faces a text has or counts, and the lines `level` of
 `sparse`: all of them for the cube and the sheets, and that of level 0 for others. It prints what is wrong, and the exit
-status is then 1. Only large differences mean something on a busy machine. Peaks below some 20 MB are those of Python.
-
-The second table has the sessions of `frames`, with a row for what each frame moves: how many points and kilobytes a frame
-writes; the greatest peak memory; the least of the mean times of a frame in some sessions; the nanoseconds for each point; the
-time of a frame that moves all points, divided by this one; the time at the smaller size; and the exponent: 0.0 is flat.
-
-    bench/bench.py --runs 5 --only wheel
-    bench/bench.py --only "refine depth=3"
-    bench/bench.py --quick --program PROGRAM   # small meshes, to try a program that is slow
+status is then 1. Peaks below 10 MB are those of Python.
 """
 
 from __future__ import annotations
@@ -37,114 +37,128 @@ import subprocess
 import sys
 import tempfile
 import time
+from concurrent.futures import ThreadPoolExecutor
 from multiprocessing import Pool
 from pathlib import Path
-from typing import Callable, Iterator, NamedTuple
+from typing import Callable, Iterable, Iterator, NamedTuple
 
 import bench_frames
 import bench_meshes as meshes
+from bench_checks import DEPTH_OF_STORED_TABLE, bytes_moved, counted, depth_of, faults_of, is_stored
+from bench_runs import Tool, instructions, run_once, tool_that_counts
 from paths import PROGRAM, TOP
 
-QUICK = 64
+PAGE = TOP / "docs/performance.md"
+TABLE = re.compile(r"^Measured on .*\n\n(?:\|.*\n)+", re.MULTILINE)
+TITLES = "Words", "Mesh", "Counted", "ns each", "ns a byte", "MB", "Bytes each", "Growth", "Instructions", "Bound"
+STEP = 8  # how many times smaller the next size is
 QUICK_FRAMES = 10
+RUNS_OF_SMALL = 3  # how many runs of the smaller size there are for each of the larger
+LEAST_THAT_GROWS = 64
+LEAST_SIZE = {meshes.creased_character: 340 * 4**2, meshes.semi_sharp_character: 340 * 4**2}  # of makers that need one
+QUICK = 64
 MILLION = 10**6
-Sessions = dict[bench_frames.Kind, bench_frames.Seen]  # of each kind of frames what was seen of it
 
 
 class Case(NamedTuple):
-    """A mesh, how it is made, the words, and the sizes; `gen` makes its own, with a size of quads in a row."""
+    """The words, the mesh, how it is made, and its size; `gen` makes its own. Then what a row counts, and what bounds the
+    time, in a word or two; empty where docs/performance.md has no such row."""
 
+    words: str
     mesh: str
     maker: Callable | None
-    words: str
-    sizes: tuple[int, ...]
+    size: int
+    unit: str = "faces"
+    bound: str = ""
 
 
-class Measured(NamedTuple):
-    """What was seen of a case at one size."""
-
-    faces: int
-    seconds: float
-    peak: float
-    written: int
-    entries: int | None
-    bytes: int | None
-    faults: list[str]
+def cases_of(mesh: str, maker: Callable | None, size: int, *rows: tuple[str, ...]) -> list[Case]:
+    """The cases of a mesh: of each the words, and the last fields where they are not the usual ones."""
+    return [Case(row[0], mesh, maker, size, *row[1:]) for row in rows]
 
 
-def with_quarter(size: int) -> tuple[int, int]:
-    return size, size // 4
-
-
-CHECKS = [
-    Case(mesh, maker, "levels depth=0", with_quarter(size))
-    for mesh, maker, size in [
-        ("faces at one vertex, in one fan", meshes.wheel, MILLION),
-        ("faces at one vertex, in two fans", meshes.two_wheels, MILLION),
-        ("faces over one edge", meshes.one_edge, MILLION),
-        ("one face, by its corners", meshes.one_face, MILLION),
-        ("wheel of triangles", meshes.wheel, 65537),
-        ("torus of quads", meshes.torus, 2**20),
-        ("torus of quads, the last turned over", meshes.turned_torus, 2**20),
-        ("creased sheet of quads, hidden boundary", meshes.hidden_sheet, 1023**2),
-        ("triangles with colliding edges", meshes.colliding, 300000),
-    ]
-]
-PATHS = ["refine depth=3", "refine depth=3 by=level"]
-DECIMALS = ["refine depth=3 decimals=6"]
-OTHERS = ["levels depth=3", "stencils depth=3"]
-LIMITS = ["refine depth=2", "limit depth=2"]
+CHARACTER = "character", meshes.character, 340 * 8**2
+TORUS = "torus", meshes.torus, 64**2
+STORED = f"verify depth={DEPTH_OF_STORED_TABLE}"
+FLAT = "refine depth=3"
+BY_LEVEL = "refine depth=3 by=level"
+DECIMALS = "refine depth=3 decimals=6"
 # Face 2 of level 2 lies inside a face of level 0, so that it has a patch where that is a quad.
-PATCHES = ["stencils depth=2", "patch depth=2 face=2 grid=64"]
-DEPTH_OF_STORED_TABLE = 3
-STORED = ["apply", f"verify depth={DEPTH_OF_STORED_TABLE}"]
-COMMANDS = [
-    Case(mesh, maker, words, with_quarter(size))
-    for mesh, maker, size, lines in [
-        ("sheet", meshes.sheet, 64**2, PATHS),
-        ("creased sheet", meshes.creased_sheet, 64**2, PATHS + ["refine depth=3 tags=yes"] + OTHERS),
-        ("torus", meshes.torus, 64**2, PATHS + DECIMALS + OTHERS + LIMITS + PATCHES + STORED),
-        ("textured sheet", meshes.textured_sheet, 64**2, PATHS + DECIMALS + ["refine depth=3 uv=linear"]),
-        ("character", meshes.character, 20000, PATHS + DECIMALS + OTHERS + LIMITS + PATCHES + STORED),
-        ("textured character", meshes.textured_character, 20000, PATHS + DECIMALS),
-        ("none", None, 128**2, ["gen seed=7 size={side} depth=3"]),
-        ("large sheet", meshes.sheet, 141**2, ["levels depth=3"]),
-    ]
-    for words in lines
+PATCH = "patch depth=2 face=2 grid=64"
+CASES = [
+    *cases_of(*CHARACTER, ("levels depth=3", "faces", "topology"), (FLAT, "faces", "table"), (BY_LEVEL, "faces", "masks")),
+    *cases_of(*CHARACTER, (DECIMALS,), ("limit depth=2", "faces", "table"), (PATCH, "faces", "table")),
+    *cases_of(*CHARACTER, ("map depth=10 face=0 grid=256", "places", "places"), ("refine depth=2",), ("stencils depth=2",)),
+    *cases_of(*CHARACTER, ("stencils depth=3", "entries"), ("map depth=3 face=0 grid=256", "places")),
+    *cases_of("textured character", meshes.textured_character, CHARACTER[2], (FLAT, "faces", "table"), (BY_LEVEL,), (DECIMALS,)),
+    *cases_of("textured character", meshes.textured_character, CHARACTER[2], ("sparse depth=10 uv=smooth", "present faces", "masks")),
+    *cases_of(*TORUS, ("stencils depth=3", "entries", "table"), ("apply", "entries", "reading"), (STORED, "entries", "reading")),
+    *cases_of(*TORUS, (FLAT,), (BY_LEVEL,), (DECIMALS,), ("levels depth=3",), ("refine depth=2",), ("limit depth=2",), (PATCH,)),
+    *cases_of("sheet", meshes.sheet, 64**2, (FLAT,), (BY_LEVEL,), ("sparse depth=10", "present faces")),
+    *cases_of("creased sheet", meshes.creased_sheet, 64**2, (BY_LEVEL, "faces", "masks"), (FLAT,), ("refine depth=3 tags=yes",)),
+    *cases_of("textured sheet", meshes.textured_sheet, 64**2, (FLAT,), (BY_LEVEL,), ("refine depth=3 uv=linear",)),
+    *cases_of("large sheet", meshes.sheet, 512**2, ("sparse depth=10", "present faces", "reading")),
+    *cases_of("creased character", meshes.creased_character, CHARACTER[2], ("sparse depth=10", "present faces", "masks")),
+    *cases_of("semi-sharp character", meshes.semi_sharp_character, CHARACTER[2], ("sparse depth=10", "present faces")),
+    *cases_of("character by its bumps", meshes.bumpy_character, 216, ("sparse depth=10", "present faces")),
+    *cases_of("cube", meshes.cube, 6, ("sparse depth=10", "present faces")),
+    *cases_of("its own", None, 128**2, ("gen seed=7 size={side} depth=3", "faces", "table")),
+    *cases_of("one quad", meshes.sheet, 1, ("levels depth=10",)),
+    *cases_of("one fan", meshes.wheel, MILLION, ("levels depth=0", "faces", "sort")),
+    *cases_of("torus of a million quads", meshes.torus, 2**20, ("levels depth=0", "faces", "edge map")),
+    *cases_of("creased sheet, hidden boundary", meshes.hidden_sheet, 1023**2, ("levels depth=0", "faces", "edge map")),
+    *cases_of("triangles with colliding edges", meshes.colliding, 300000, ("levels depth=0", "faces", "edge map")),
+    *cases_of("faces at one vertex, in two fans", meshes.two_wheels, MILLION, ("levels depth=0",)),
+    *cases_of("faces over one edge", meshes.one_edge, MILLION, ("levels depth=0",)),
+    *cases_of("one face, by its corners", meshes.one_face, MILLION, ("levels depth=0", "corners")),
+    *cases_of("wheel of triangles", meshes.wheel, 65537, ("levels depth=0",)),
+    *cases_of("torus of quads, the last turned over", meshes.turned_torus, 2**20, ("levels depth=0",)),
+    *cases_of("cube", meshes.moved_cube, MILLION, ("frames depth=1", "moves", "reading")),
 ]
-FEATURES = [
-    Case(mesh, maker, "sparse depth=10", sizes)
-    for mesh, maker, sizes in [
-        ("cube", meshes.cube, (6,)),
-        ("sheet", meshes.sheet, with_quarter(64**2)),
-        ("large sheet", meshes.sheet, with_quarter(512**2)),
-        ("semi-sharp character", meshes.semi_sharp_character, with_quarter(20000)),
-        ("creased character", meshes.creased_character, with_quarter(20000)),
-        ("character, by its bumps", meshes.bumpy_character, (216, 54)),
-    ]
-]
-FEATURES += [
-    Case("textured character", meshes.textured_character, "sparse depth=10 uv=smooth", with_quarter(20000)),
-    Case("character", meshes.character, "map depth=3 face=0 grid=256", with_quarter(20000)),
-    Case("character", meshes.character, "map depth=10 face=0 grid=256", with_quarter(20000)),
-]
-MOVES = [Case("cube, by its moves", meshes.moved_cube, "frames depth=1", with_quarter(MILLION))]
-CASES = CHECKS + COMMANDS + FEATURES + MOVES + [Case("one quad", meshes.sheet, "levels depth=10", (1,))]
 SESSIONS = [
-    Case("character", meshes.character, "frames depth=3", with_quarter(20000)),
-    Case("torus", meshes.torus, "frames depth=3", (142**2, 71**2)),
+    Case("frames depth=3", *CHARACTER, "points", "rows"),
+    Case("frames depth=3", "torus", meshes.torus, 142**2, "points"),
 ]
-TEXTURED = meshes.textured_sheet, meshes.textured_character
-# How many points and faces are present of the levels after level 0. All later levels have the counts of the last.
-PRESENT = {meshes.cube: [(26, 24), (98, 96), (296, 216)], meshes.sheet: [(64, 36)]}
 
 
 # Meshes
 
 
-def depth_of(words: str) -> int:
-    depth = re.search(r"depth=(\d+)", words)
-    return int(depth[1]) if depth else DEPTH_OF_STORED_TABLE
+class Texts:
+    """The texts of meshes, each made once, in a folder."""
+
+    def __init__(self, folder: Path, program: Path):
+        self.folder, self.program = folder, program
+        self.made: dict[tuple[str, int], tuple[Path, meshes.Mesh]] = {}
+
+    def make(self, cases: Iterable[Case], sizes_of: Callable[[Case], tuple[int, ...]]) -> None:
+        """Makes the texts of cases, as many at a time as there are processors."""
+        wanted = {(case.mesh, size): case.maker for case in cases if case.maker for size in sizes_of(case)}
+        paths = [self.folder / f"mesh{number}" for number in range(len(wanted))]
+        with Pool() as pool:
+            made = pool.starmap(write_mesh, [(path, maker, key[1]) for path, (key, maker) in zip(paths, wanted.items())], 1)
+        self.made = dict(zip(wanted, zip(paths, made)))
+
+    def text_for(self, case: Case, size: int) -> meshes.Made:
+        """The input of a case, and what is wanted of its run."""
+        depth = depth_of(case.words)
+        if case.maker is None:
+            return meshes.Made(Path(os.devnull), math.isqrt(size) ** 2 * 4**depth, meshes.GOOD, "")
+        path, mesh = self.made[case.mesh, size]
+        if is_stored(case.words):
+            path = self.with_table(case, path)
+        faces = mesh.corners * 4 ** (depth - 1) if depth else mesh.faces
+        return meshes.Made(path, faces, mesh.status, mesh.first_line)
+
+    def with_table(self, case: Case, path: Path) -> Path:
+        """The table of a mesh before its text for `apply`, and behind it for `verify`."""
+        is_first = case.words.startswith("apply")
+        to = path.with_suffix(".apply" if is_first else ".verify")
+        if not to.exists():
+            mesh, asked = path.read_bytes(), [self.program, "stencils", f"depth={DEPTH_OF_STORED_TABLE}"]
+            table = subprocess.run(asked, input=mesh, stdout=subprocess.PIPE, check=True).stdout
+            to.write_bytes(table + mesh if is_first else mesh + table)
+        return to
 
 
 def write_mesh(path: Path, maker: Callable[[int], meshes.Mesh], size: int) -> meshes.Mesh:
@@ -155,236 +169,220 @@ def write_mesh(path: Path, maker: Callable[[int], meshes.Mesh], size: int) -> me
     return mesh._replace(lines=())
 
 
-def make(folder: Path, case: Case, size: int) -> meshes.Made:
-    """Makes the text of a mesh. Another process does it, since the peak of a run begins at that of this one."""
-    path, depth = folder / "mesh.obj", depth_of(case.words)
-    if case.maker is None:
-        path.write_bytes(b"")
-        return meshes.Made(path, size * 4**depth, meshes.GOOD, "")
-    with Pool(1) as pool:
-        mesh = pool.apply(write_mesh, (path, case.maker, size))
-    faces = mesh.corners * 4 ** (depth - 1) if depth else mesh.faces
-    return meshes.Made(path, faces, mesh.status, mesh.first_line)
+# Measures
 
 
-def is_stored(words: str) -> bool:
-    return words.startswith(("apply", "verify"))
+class Measured(NamedTuple):
+    """What was seen of a case at one size: the size with which it grows, how many are counted, the least time, the greatest
+    peak in megabytes, the bytes that were read and written, and what is wrong."""
+
+    size: float
+    count: float
+    seconds: float
+    peak: float = 0
+    bytes: float | None = None
+    faults: tuple[str, ...] = ()
 
 
-def put_table(program: Path, words: str, path: Path) -> None:
-    """Puts the table of a mesh before its text for `apply`, and behind it for `verify`."""
-    mesh = path.read_bytes()
-    asked = [program, "stencils", f"depth={DEPTH_OF_STORED_TABLE}"]
-    table = subprocess.run(asked, input=mesh, stdout=subprocess.PIPE, check=True).stdout
-    path.write_bytes(table + mesh if words.startswith("apply") else mesh + table)
+class Row(NamedTuple):
+    """What is seen of a case, or of a kind of frames, at its size and at the eighth of it."""
+
+    words: str
+    mesh: str
+    unit: str
+    seen: list[Measured]
 
 
-# Runs
+class Bench:
+    """The program, the texts, the tool that counts, and how cases are measured."""
+
+    def __init__(self, program: Path, runs: int, is_quick: bool, folder: Path):
+        self.program, self.runs, self.is_quick, self.folder = program, runs, is_quick, folder
+        self.texts, self.tool = Texts(folder, program), None if is_quick else tool_that_counts()
+
+    def sizes_of(self, case: Case) -> tuple[int, ...]:
+        """The size of a case, its eighth, and its 64th part, as far as they differ; one size where the mesh is small."""
+        size, least = max(case.size // QUICK, 1) if self.is_quick else case.size, LEAST_SIZE.get(case.maker, 1)
+        parts = (size, size // STEP, size // STEP**2) if size >= LEAST_THAT_GROWS else (size,)
+        return tuple(dict.fromkeys(max(part, least) for part in parts))
+
+    def make(self, cases: list[Case]) -> None:
+        """Makes all texts."""
+        self.texts.make(cases, self.sizes_of)
+
+    def rows_of(self, case: Case) -> list[Row]:
+        """The rows of a case: one, or one for each kind of frames."""
+        if case in SESSIONS:
+            return list(self.rows_of_session(case))
+        return [Row(words_of(case, self.sizes_of(case)[0]), case.mesh, case.unit, self.measured(case))]
+
+    def counts_of(self, case: Case) -> list[list[tuple[float, float]]]:
+        """Of each row of a case the instructions for how many at its two least sizes; nothing where none are counted."""
+        sizes = self.sizes_of(case)[-2:]
+        if self.tool is None or len(sizes) < 2:
+            return [[]] * (len(bench_frames.KINDS) if case in SESSIONS else 1)
+        if case in SESSIONS:
+            return [list(pair) for pair in zip(*(self.instructions_of_session(case, size) for size in sizes))]
+        return [[self.instructions_of(case, size) for size in sizes]]
+
+    # Whole runs
+
+    def measured(self, case: Case) -> list[Measured]:
+        """What is seen of a case at its size, and at the eighth of it."""
+        sizes, sink = self.sizes_of(case)[:2], self.folder / "written"
+        runs, told = [[] for _ in sizes], [None for _ in sizes]
+        for _ in range(self.runs):
+            for place, size in enumerate(sizes):
+                words, made = words_of(case, size), self.texts.text_for(case, size)
+                runs[place] += [run_once(self.program, words, made.path, sink) for _ in range(RUNS_OF_SMALL if place else 1)]
+                told[place] = told[place] or self.told_by(case, size, sink, runs[place][-1].status)
+        sink.unlink()
+        best = [(min(run.seconds for run in seen), max(run.peak for run in seen)) for seen in runs]
+        return [Measured(count, count, *one, moved, faults) for one, (count, moved, faults) in zip(best, told)]
+
+    def told_by(self, case: Case, size: int, sink: Path, status: int) -> tuple[int, int | None, tuple[str, ...]]:
+        """How many a run counted, how many bytes it read and wrote, and what is wrong with it."""
+        words, made = words_of(case, size), self.texts.text_for(case, size)
+        faults = faults_of(case.maker, words, made, sink, status)
+        count = made.faces if faults else counted(case.unit, words, made, sink)
+        return count, bytes_moved(words, made, sink), tuple(faults)
+
+    def instructions_of(self, case: Case, size: int) -> tuple[float, float]:
+        """How many instructions a case takes at a size, and for how many."""
+        words, made = words_of(case, size), self.texts.text_for(case, size)
+        with tempfile.TemporaryDirectory(dir=self.folder) as folder:
+            sink = Path(folder) / "written"
+            count = instructions(self.tool, [str(self.program), *words.split()], str(made.path), str(sink))
+            return count or 0, counted(case.unit, words, made, sink)
+
+    # Sessions
+
+    def rows_of_session(self, case: Case) -> Iterator[Row]:
+        """A row for each kind of frames, from the session at each of two sizes where it took least."""
+        parts, sizes = QUICK_FRAMES if self.is_quick else 1, self.sizes_of(case)[:2]
+        turns = [size for _ in range(self.runs) for size in sizes]
+        sessions = [bench_frames.seen_of(self.program, case.words, self.texts.text_for(case, size), parts) for size in turns]
+        for kind in bench_frames.KINDS:
+            seen = []
+            for place, _ in enumerate(sizes):
+                of_size = sessions[place :: len(sizes)]
+                least = min((frames[kind] for frames, _, _ in of_size), key=lambda one: one.seconds)
+                faults = tuple(fault for _, _, found in of_size for fault in found if kind is bench_frames.START)
+                peak = max(peak for _, peak, _ in of_size) if kind is bench_frames.START else 0
+                count = least.faces if kind is bench_frames.START else least.points or 1
+                seen.append(Measured(least.faces, count, least.seconds, peak, least.written or None, faults))
+            unit = "faces" if kind is bench_frames.START else "points" if seen[0].count > 1 else "frame"
+            yield Row(case.words, f"{case.mesh}, {kind.name}", unit, seen)
+
+    def instructions_of_session(self, case: Case, size: int) -> Iterator[tuple[float, float]]:
+        """How many instructions a frame of each kind takes at a size, and for how many faces of the mesh."""
+        made = self.texts.text_for(case, size)
+        with tempfile.TemporaryDirectory(dir=self.folder) as folder:
+            source, sink, start = Path(folder) / "source", Path(folder) / "written", 0
+            for kind in bench_frames.KINDS:
+                source.write_bytes(bench_frames.text_of(kind, made.path))
+                count = instructions(self.tool, [str(self.program), *case.words.split()], str(source), str(sink)) or 0
+                yield (count - start) / max(kind.counted, 1), made.faces
+                start = start or count
 
 
-def run_once(program: Path, words: str, source: Path, sink: Path) -> tuple[float, float, int]:
-    """One whole run: its seconds, its peak memory in megabytes, and its status."""
-    with open(source, "rb") as read, open(sink, "wb") as written:
-        start = time.perf_counter()
-        process = subprocess.Popen([program, *words.split()], stdin=read, stdout=written, stderr=written)
-        _, status, use = os.wait4(process.pid, 0)
-        seconds = time.perf_counter() - start
-    process.returncode = os.waitstatus_to_exitcode(status)
-    return seconds, use.ru_maxrss / 1024, process.returncode
+def words_of(case: Case, size: int) -> str:
+    return case.words.format(side=math.isqrt(size))
 
 
-def is_sparse(case: Case) -> bool:
-    return case.words.startswith("sparse")
+# The table
 
 
-def level_lines(path: Path) -> list[str]:
-    """The lines `level` of a text, without the counts of texture."""
-    with open(path, "rb") as text:
-        return [line.decode().partition(" texture")[0].rstrip("\n") for line in text if line.startswith(b"level ")]
-
-
-def wanted_levels(case: Case, made: meshes.Made) -> list[str]:
-    """The lines `level` that the text of sparse levels is to have, from level 0 as far as they are known."""
-    first, depth = re.search(r" points (\d+) .* faces (\d+) ", made.first_line).groups(), depth_of(case.words)
-    later = PRESENT.get(case.maker, [])
-    counts = [first, *(later + later[-1:] * depth)[:depth]]
-    return [f"level {number} points {points} faces {faces}" for number, (points, faces) in enumerate(counts)]
-
-
-def sparse_faults(case: Case, made: meshes.Made, sink: Path) -> list[str]:
-    """What is wrong with a text of sparse levels."""
-    lines, levels = level_lines(sink), depth_of(case.words) + 1
-    faults = [] if len(lines) == levels else [f"{len(lines)} levels, and not {levels}"]
-    pairs = zip(lines, wanted_levels(case, made))
-    return faults + [f"line '{line}', and not '{wanted}'" for line, wanted in pairs if line != wanted]
-
-
-def faces_counted(words: str, path: Path) -> int | None:
-    """How many faces the text that was written has or counts; nothing of a table."""
-    with open(path, "rb") as text:
-        if words.startswith(("refine", "limit")):
-            return sum(line.startswith(b"f ") for line in text)
-        has_none = words.startswith(("stencils", "patch", "map", "frames"))
-        return None if has_none or is_stored(words) else int(re.findall(rb" faces (\d+)", text.read())[-1])
-
-
-def faults_of(case: Case, made: meshes.Made, sink: Path, status: int) -> list[str]:
-    """What is wrong with a run, by its status and by what it wrote."""
-    with open(sink, "rb") as text:
-        first_line = text.readline(1000).decode("utf-8", "replace").rstrip("\n")
-    if status != made.status:
-        return [f"status {status}, and not {made.status}: {first_line}"]
-    if case.words.startswith(("levels", "frames")) and first_line != made.first_line:
-        return [f"first line '{first_line}', and not '{made.first_line}'"]
-    if is_sparse(case):
-        return sparse_faults(case, made, sink)
-    faces = faces_counted(case.words, sink) if depth_of(case.words) else None
-    return [] if faces in (None, made.faces) else [f"{faces} faces, and not {made.faces}"]
-
-
-def entries_of(program: Path, case: Case, words: str, path: Path) -> int | None:
-    """How many entries the table has by which a run goes; nothing where there is none, or a second one of texture."""
-    command = words.split()[0]
-    if is_stored(words):
-        with open(path, "rb") as text:
-            header = next(line for line in text if line.startswith(b"table "))
-        return int(header.split()[-1])
-    if command in ("levels", "limit", "patch", "map", "frames", "sparse") or "by=level" in words or case.maker in TEXTURED:
-        return None
-    asked = words if command == "gen" else f"stencils depth={depth_of(words)}"
-    outputs = {"stdout": subprocess.PIPE, "stderr": subprocess.DEVNULL}
-    with open(path, "rb") as source, subprocess.Popen([program, *asked.split()], stdin=source, **outputs) as run:
-        found = re.search(rb" entries (\d+)", run.stdout.read(200))
-    return int(found[1]) if found else None
-
-
-def faces_of(case: Case, made: meshes.Made, sink: Path) -> int:
-    """How many faces the row of a run counts, or how many places."""
-    if case.words.startswith("map"):
-        return sink.read_bytes().count(b"\n")
-    return sum(int(line.split()[-1]) for line in level_lines(sink)) if is_sparse(case) else made.faces
-
-
-def bytes_of(case: Case, made: meshes.Made, sink: Path) -> int | None:
-    """How many bytes a run reads and writes; nothing where they are next to none for what it does."""
-    if case.words.startswith("gen") or case.words.startswith("levels") and depth_of(case.words):
-        return None
-    return made.path.stat().st_size + sink.stat().st_size
-
-
-def measured(program: Path, case: Case, size: int, runs: int) -> Measured:
-    """Measures a case at one size."""
-    words = case.words.format(side=math.isqrt(size))
-    with tempfile.TemporaryDirectory() as folder:
-        made, sink = make(Path(folder), case, size), Path(folder) / "written"
-        if is_stored(words):
-            put_table(program, words, made.path)
-        seen = [run_once(program, words, made.path, sink) for _ in range(runs)]
-        seconds, peaks, statuses = zip(*seen)
-        status = next((one for one in statuses if one != made.status), made.status)
-        faults = faults_of(case, made, sink, status)
-        entries = entries_of(program, case, words, made.path)
-        faces, written, moved = faces_of(case, made, sink), sink.stat().st_size, bytes_of(case, made, sink)
-    return Measured(faces, min(seconds), max(peaks), written, entries, moved, faults)
-
-
-# Rows
-
-
-def exponent(large: Measured | bench_frames.Seen, small: Measured | bench_frames.Seen) -> str:
-    """That with which the time grows with the faces between two sizes; nothing where they are the same."""
-    if large.faces == small.faces or not small.faces:
+def growth(pairs: list[tuple[float, float]]) -> str:
+    """The exponent with which the first number grows with the second, from one pair to the one before it."""
+    if len(pairs) < 2 or pairs[0][1] == pairs[1][1] or min(map(min, pairs)) <= 0:
         return ""
-    return f"{round(math.log(large.seconds / small.seconds) / math.log(large.faces / small.faces), 2) + 0:.2f}"
-
-
-def each(seconds: float, count: float | None) -> str:
-    """The nanoseconds for each of a count; nothing where the count is 0."""
-    return f"{seconds * 1e9 / count:,.0f}" if count else ""
+    (large, many), (small, few) = pairs
+    return f"{round(math.log(large / small) / math.log(many / few), 2) + 0:.2f}"
 
 
 def short(value: float) -> str:
     return f"{value:,.0f}" if value >= 100 else f"{value:.3g}"
 
 
-def row(program: Path, case: Case, options: argparse.Namespace) -> bool:
-    """Prints the row of a case, and returns whether nothing was wrong."""
-    sizes = [max(size // QUICK, 1) for size in case.sizes] if options.quick else case.sizes
-    seen = [measured(program, case, size, options.runs) for size in sizes]
-    large = seen[0]
-    cells = [case.mesh, f"`{case.words.format(side=math.isqrt(sizes[0]))}`", f"{large.faces:,}"]
-    cells += [f"{large.seconds:.3f}", f"{large.peak:.0f}", f"{large.written / MILLION:.1f}"]
-    cells += [each(large.seconds, count) for count in (large.faces, large.entries, large.bytes)]
-    cells += [exponent(large, seen[-1])]
-    print(f"| {' | '.join(cells)} |", flush=True)
-    faults = [fault for one in seen for fault in one.faults]
-    for fault in faults:
-        print(f"wrong: {fault}")
-    return not faults
+def cells_of(case: Case, row: Row, counts: list[tuple[float, float]]) -> list[str]:
+    """The cells of a row."""
+    large, small = row.seen[0], row.seen[-1]
+    each = [short(one.peak * 2**20 / one.count) for one in row.seen if one.peak]
+    return [
+        f"`{row.words}`",
+        row.mesh,
+        f"{large.count:,.0f} {row.unit}",
+        short(large.seconds * 1e9 / large.count),
+        short(large.seconds * 1e9 / large.bytes) if large.bytes else "",
+        short(large.peak) if large.peak else "",
+        f"{each[0]} ({each[-1]})" if len(each) > 1 else "".join(each),
+        growth([(one.seconds, one.size) for one in row.seen]),
+        growth(counts),
+        case.bound,
+    ]
 
 
-def seen_in_sessions(program: Path, case: Case, size: int, options: argparse.Namespace) -> tuple[Sessions, float, list[str]]:
-    """What was seen at one size of each kind of frames, in the session where it took least; the greatest peak; and what is
-    wrong."""
-    parts = QUICK_FRAMES if options.quick else 1
-    with tempfile.TemporaryDirectory() as folder:
-        made = make(Path(folder), case, size)
-        sessions = [bench_frames.seen_of(program, case.words, made, parts) for _ in range(options.runs)]
-    seen, peaks, faults = zip(*sessions)
-    least = {kind: min((one[kind] for one in seen), key=lambda one: one.seconds) for kind in bench_frames.KINDS}
-    return least, max(peaks), [fault for one in faults for fault in one]
+def line_of(cells: Iterable[str]) -> str:
+    """A line of a table. An empty cell has no space of its own."""
+    return "|" + "|".join(f" {cell} " if cell else " " for cell in cells) + "|"
 
 
-def cells_of_sessions(case: Case, large: Sessions, small: Sessions, peak: float) -> Iterator[list[str]]:
-    """The cells of the rows of a mesh, one for each kind of frames, from what was seen at two sizes."""
-    for kind in bench_frames.KINDS:
-        one, quarter, is_frame = large[kind], small[kind], kind is not bench_frames.START
-        cells = [case.mesh, f"`{case.words}`", kind.name]
-        cells += [f"{one.points:,.0f}", f"{one.written / 1000:,.1f}"] if is_frame else ["", ""]
-        cells += ["" if is_frame else f"{peak:.0f}", short(one.seconds * 1000), each(one.seconds, one.points)]
-        cells += [short(large[bench_frames.ALL].seconds / one.seconds) if is_frame else ""]
-        yield cells + [short(quarter.seconds * 1000), exponent(one, quarter)]
+def machine(tool: Tool | None) -> str:
+    """The line above the table: where and when it was measured."""
+    cpuinfo = Path("/proc/cpuinfo")
+    names = re.findall(r"^model name\s*: (.*)$", cpuinfo.read_text(), re.MULTILINE) if cpuinfo.is_file() else []
+    by = f"instructions counted by {tool('')[0]}" if tool else "instructions not counted"
+    load = f"load {os.getloadavg()[0]:.1f} at the start"
+    return f"Measured on {os.cpu_count()} processors of {names[0] if names else 'this machine'}, {time.strftime('%Y-%m-%d')}, {load}, {by}:"
 
 
-def print_sessions(program: Path, case: Case, options: argparse.Namespace) -> bool:
-    """Prints the rows of the sessions on a mesh, and returns whether nothing was wrong."""
-    sizes = [size // QUICK for size in case.sizes] if options.quick else case.sizes
-    try:
-        (large, peak, faults), (small, _, others) = (seen_in_sessions(program, case, size, options) for size in sizes)
-    except bench_frames.SessionEnded as ended:
-        print(f"wrong: {case.mesh} `{case.words}`: {ended}")
-        return False
-    for cells in cells_of_sessions(case, large, small, peak):
-        print(f"| {' | '.join(cells)} |", flush=True)
-    for fault in faults + others:
-        print(f"wrong: {fault}")
-    return not faults + others
+def arguments() -> argparse.Namespace:
+    parser = argparse.ArgumentParser(description="Times the commands of the program on large meshes.")
+    parser.add_argument("--program", type=Path, default=TOP / PROGRAM, help="the program to run")
+    parser.add_argument("--runs", type=int, default=5, help="how many runs of each mesh at its larger size")
+    parser.add_argument("--only", default="", metavar="TEXT", help="only the rows whose words and mesh have this text")
+    parser.add_argument("--all", action="store_true", help="also the rows that docs/performance.md has not")
+    parser.add_argument("--quick", action="store_true", help=f"make the meshes {QUICK} times smaller, and count no instructions")
+    parser.add_argument("--write", action="store_true", help="put the table into docs/performance.md")
+    return parser.parse_args()
 
 
-def print_header(*titles: str) -> None:
-    """Prints the head of a table, and before it an empty line, which ends the table before."""
-    print(f"\n| {' | '.join(titles)} |")
-    print("|" + "---|" * len(titles))
+def run_cases(bench: Bench, cases: list[Case]) -> tuple[list[str], list[str]]:
+    """Measures cases and prints their rows: the lines of the table, and what is wrong."""
+    bench.make(cases)
+    with ThreadPoolExecutor(os.cpu_count()) as pool:
+        counts = list(pool.map(bench.counts_of, cases))
+    lines, faults = [line_of(TITLES), "|" + "---|" * len(TITLES)], []
+    print("\n".join(lines), flush=True)
+    for case, counted_of_case in zip(cases, counts):
+        for row, one in zip(bench.rows_of(case), counted_of_case):
+            lines.append(line_of(cells_of(case, row, one)))
+            print(lines[-1], flush=True)
+            faults += [f"wrong: `{case.words}` {row.mesh}: {fault}" for seen in row.seen for fault in seen.faults]
+    return lines, faults
 
 
 def main() -> int:
-    parser = argparse.ArgumentParser(description="Times the commands of the program on large meshes.")
-    parser.add_argument("--program", type=Path, default=TOP / PROGRAM, help="the program to run")
-    parser.add_argument("--runs", type=int, default=3, help="how many runs of each mesh")
-    parser.add_argument("--only", default="", metavar="TEXT", help="only the rows whose mesh and words have this text")
-    parser.add_argument("--quick", action="store_true", help=f"make the meshes {QUICK} times smaller")
-    options = parser.parse_args()
-    program = options.program.resolve()
-    cases, sessions = ([case for case in part if options.only in f"{case.mesh} {case.words}"] for part in (CASES, SESSIONS))
-    good = []
-    if cases:
-        print_header("Mesh", "Words", "Faces", "s", "MB", "Written, MB", "ns a face", "ns an entry", "ns a byte", "Exponent")
-        good += [row(program, case, options) for case in cases]
-    if sessions:
-        columns = "Points", "Written, KB", "MB", "ms", "ns a point", "Quotient", "ms at a quarter", "Exponent"
-        print_header("Mesh", "Words", "Moved", *columns)
-        good += [print_sessions(program, case, options) for case in sessions]
-    return 0 if good and all(good) else 1
+    options = arguments()
+    cases = [case for case in CASES + SESSIONS if options.only in f"{case.words} {case.mesh}" and (options.all or case.bound)]
+    with tempfile.TemporaryDirectory() as folder:
+        bench = Bench(options.program.resolve(), options.runs, options.quick, Path(folder))
+        first = machine(bench.tool)
+        print(f"{first}\n")
+        try:
+            lines, faults = run_cases(bench, cases)
+        except bench_frames.SessionEnded as ended:
+            faults = [f"wrong: {ended}"]
+    for fault in faults:
+        print(fault)
+    if faults or not cases:
+        return 1
+    if options.write:
+        page, count = TABLE.subn(lambda _: "\n".join([first, "", *lines, ""]), PAGE.read_text(encoding="utf-8"), count=1)
+        PAGE.write_text(page, encoding="utf-8")
+        return 0 if count else 1
+    return 0
 
 
 if __name__ == "__main__":

@@ -20,18 +20,19 @@ MANY = 1000
 
 
 class Kind(NamedTuple):
-    """What each frame of some moves, and how many frames there are."""
+    """What each frame of some moves, how many frames are timed, and of how many the instructions are counted."""
 
     name: str
     frames: int
+    counted: int = 0
 
 
-START = Kind("none, until the mesh is read", 1)
-NONE = Kind("none", 500)
-ONE = Kind("one", 500)
-SIDE_BY_SIDE = Kind("a thousand, side by side", 5)
-FAR_APART = Kind("a thousand, far apart", 5)
-ALL = Kind("all", 5)
+START = Kind("start", 1)
+NONE = Kind("none moved", 500, 10)
+ONE = Kind("one moved", 500, 10)
+SIDE_BY_SIDE = Kind("1,000 moved, near", 5, 2)
+FAR_APART = Kind("1,000 moved, far", 5, 2)
+ALL = Kind("all moved", 3, 1)
 KINDS = START, NONE, ONE, SIDE_BY_SIDE, FAR_APART, ALL
 
 
@@ -119,6 +120,17 @@ def lines_of(numbers: Sequence[int], places: list[bytes], shift: int) -> bytes:
     return b"".join(b"move %d %s\n" % (number, places[(number + shift) % len(places)]) for number in numbers) + b"go\n"
 
 
+def frames_of(kind: Kind, places: list[bytes], count: int) -> Iterator[bytes]:
+    """The lines of each frame of a kind."""
+    for shift, numbers in enumerate(moved_points(kind, len(places), count), start=1):
+        yield lines_of(numbers, places, shift)
+
+
+def text_of(kind: Kind, path: Path) -> bytes:
+    """The input of a session whose instructions are counted: the mesh, a first frame, and frames of a kind."""
+    return path.read_bytes() + b"frames\ngo\n" + b"".join(frames_of(kind, coordinates(path), kind.counted))
+
+
 # What is seen
 
 
@@ -135,8 +147,7 @@ def seen_of(program: Path, words: str, made: Made, parts: int) -> tuple[dict[Kin
     places, session = coordinates(made.path), Session(program, words, made.path)
     seen = {START: Seen(made.faces, session.seconds, 0, 0)}
     for kind in KINDS[1:]:
-        frames = enumerate(moved_points(kind, len(places), max(kind.frames // parts, 1)), start=1)
-        answers = [session.answer(lines_of(numbers, places, shift)) for shift, numbers in frames]
+        answers = [session.answer(lines) for lines in list(frames_of(kind, places, max(kind.frames // parts, 1)))]
         seen[kind] = Seen(made.faces, *(sum(column) / len(answers) for column in zip(*answers)))
     status, peak = session.end()
     return seen, peak, faults_of(seen, made, status)
