@@ -11,7 +11,7 @@ use Rattle.number_width.specs.declared.width.Width.{Width}
 use Rattle.number_width.specs.declared.width.Width.TheVariants as width
 use Rattle.stencil_apply.specs.Table.{Share, Row, Table, IsRow, IsTable, entries_of, greatest_of}
 use Rattle.stencil_apply.specs.Arrays.{shares_in, table_of, AreTied, shares_of, row_of, row_of_parts}
-use Rattle.stencil_apply.specs.Built.{with_row, wider, HaveRoom, HaveSpace, IsGrown, IsPushed}
+use Rattle.stencil_apply.specs.Built.{with_row, wider, HaveCapacity, HaveSpace, IsGrown, IsPushed}
 use Rattle.stencil_apply.specs.declared.arrays.Arrays.{Arrays}
 use Rattle.stencil_apply.specs.declared.entry.Entry.{Entry}
 use Rattle.stencil_apply.proofs.ArrayLemmas.{Ascend-push, rows_from-push}
@@ -83,22 +83,22 @@ AreTied-grown old new g is =
     }
 
 -- arrays with the same items have the memory that was reserved before
-pub HaveRoom-grown : (old new : Arrays) (rows entries : ℕ) → IsGrown old new → HaveRoom old rows entries → HaveRoom new rows entries
-HaveRoom-grown old new rows entries g have = record {
+pub HaveCapacity-grown : (old new : Arrays) (rows entries : ℕ) → IsGrown old new → HaveCapacity old rows entries → HaveCapacity new rows entries
+HaveCapacity-grown old new rows entries g have = record {
   tied = AreTied-grown old new g have.tied;
-  end_room = omega (arith, ap length g.ends, have.end_room, g.capacity.ends);
-  den_room = omega (arith, ap length g.denominators, have.den_room, g.capacity.denominators);
-  index_room = omega (arith, ap length g.indices, have.index_room, g.capacity.indices);
-  numerator_room = omega (arith, ap length g.numerators, have.numerator_room, g.capacity.numerators);
+  end_capacity = omega (arith, ap length g.ends, have.end_capacity, g.capacity.ends);
+  denominator_capacity = omega (arith, ap length g.denominators, have.denominator_capacity, g.capacity.denominators);
+  index_capacity = omega (arith, ap length g.indices, have.index_capacity, g.capacity.indices);
+  numerator_capacity = omega (arith, ap length g.numerators, have.numerator_capacity, g.capacity.numerators);
 }
 
 -- the arrays have the capacity for a row that was reserved with its entries
-pub HaveSpace-from_room : (arrays : Arrays) (rows entries n : ℕ) → HaveRoom arrays rows entries → 0 < rows → n ≤ entries → HaveSpace arrays n
-HaveSpace-from_room arrays rows entries n have some short = record {
-  ends = omega (arith, have.end_room);
-  denominators = omega (arith, have.den_room);
-  indices = omega (arith, have.index_room);
-  numerators = omega (arith, have.numerator_room);
+pub HaveSpace-of_capacity : (arrays : Arrays) (rows entries n : ℕ) → HaveCapacity arrays rows entries → 0 < rows → n ≤ entries → HaveSpace arrays n
+HaveSpace-of_capacity arrays rows entries n have some short = record {
+  ends = omega (arith, have.end_capacity);
+  denominators = omega (arith, have.denominator_capacity);
+  indices = omega (arith, have.index_capacity);
+  numerators = omega (arith, have.numerator_capacity);
 }
 
 -- the greatest denominator with a row more
@@ -147,17 +147,17 @@ module _ (old new : Arrays) (row : Row) (pushed : IsPushed old new row) (is : Ar
   }
 
   -- after a row, the arrays have memory for one row less, and its entries less
-  pub HaveRoom-pushed : (rows entries : ℕ) → HaveRoom old rows entries → HaveSpace old (length row.shares) → AreTied new → HaveRoom new (rows - 1) (entries - length row.shares)
-  HaveRoom-pushed rows entries have space tied = record {
+  pub HaveCapacity-pushed : (rows entries : ℕ) → HaveCapacity old rows entries → HaveSpace old (length row.shares) → AreTied new → HaveCapacity new (rows - 1) (entries - length row.shares)
+  HaveCapacity-pushed rows entries have space tied = record {
     tied = tied;
-    end_room = omega (arith, ap length pushed.ends, have.end_room, space.ends, pushed.capacity.ends, length-append old.ends.items ((length old.indices.items + length row.shares) ∷ []));
-    den_room = omega (arith, ap length pushed.denominators, have.den_room, space.denominators, pushed.capacity.denominators, length-append old.denominators.items (row.den ∷ []));
-    index_room = omega (arith, ap length pushed.indices, have.index_room, space.indices, pushed.capacity.indices, length-append old.indices.items (map (λ (share : Share). share.0) row.shares), length-map row.shares (λ (share : Share). share.0));
-    numerator_room = omega (arith, ap length pushed.numerators, have.numerator_room, space.numerators, pushed.capacity.numerators, length-append old.numerators.items (map (λ (share : Share). share.1) row.shares), length-map row.shares (λ (share : Share). share.1));
+    end_capacity = omega (arith, ap length pushed.ends, have.end_capacity, space.ends, pushed.capacity.ends, length-append old.ends.items ((length old.indices.items + length row.shares) ∷ []));
+    denominator_capacity = omega (arith, ap length pushed.denominators, have.denominator_capacity, space.denominators, pushed.capacity.denominators, length-append old.denominators.items (row.den ∷ []));
+    index_capacity = omega (arith, ap length pushed.indices, have.index_capacity, space.indices, pushed.capacity.indices, length-append old.indices.items (map (λ (share : Share). share.0) row.shares), length-map row.shares (λ (share : Share). share.0));
+    numerator_capacity = omega (arith, ap length pushed.numerators, have.numerator_capacity, space.numerators, pushed.capacity.numerators, length-append old.numerators.items (map (λ (share : Share). share.1) row.shares), length-map row.shares (λ (share : Share). share.1));
   }
 
 -- memory was reserved, and then a row was added
-module _ (old grown : Arrays) (g : IsGrown old grown) (table : Table) (same : table_of old ≡ table) (rows entries : ℕ) (have : HaveRoom old rows entries) (n : ℕ) (few : length table.rows < 2 ^ 27) (short : entries_of table.rows + n ≤ 2 ^ 27) where
+module _ (old grown : Arrays) (g : IsGrown old grown) (table : Table) (same : table_of old ≡ table) (rows entries : ℕ) (have : HaveCapacity old rows entries) (n : ℕ) (few : length table.rows < 2 ^ 27) (short : entries_of table.rows + n ≤ 2 ^ 27) where
   grown-same : table_of grown ≡ table
   grown-same = table-grown old grown g ∙ same
 
@@ -171,11 +171,11 @@ module _ (old grown : Arrays) (g : IsGrown old grown) (table : Table) (same : ta
       table-pushed grown new row pushed (AreTied-grown old grown g have.tied) ∙ ap (with_row row) grown-same
 
   -- the arrays belong together, and have memory for one row less and its entries less
-  pub room-added : (new : Arrays) (row : Row) → IsPushed grown new row → n ≡ length row.shares → IsRow table.controls row → HaveSpace grown n → HaveRoom new (rows - 1) (entries - n)
-  room-added new row pushed e good space =
+  pub capacity-left : (new : Arrays) (row : Row) → IsPushed grown new row → n ≡ length row.shares → IsRow table.controls row → HaveSpace grown n → HaveCapacity new (rows - 1) (entries - n)
+  capacity-left new row pushed e good space =
       let tied = AreTied-grown old grown g have.tied in
       rw e
-      (HaveRoom-pushed grown new row pushed tied rows entries (HaveRoom-grown old grown rows entries g have) (rw (← e) space)
+      (HaveCapacity-pushed grown new row pushed tied rows entries (HaveCapacity-grown old grown rows entries g have) (rw (← e) space)
       (AreTied-pushed grown new row pushed tied
       (rw (ap (λ (t : Table). t.controls) grown-same) good)
       (omega (arith, few, ap (λ (t : Table). length t.rows) grown-same))

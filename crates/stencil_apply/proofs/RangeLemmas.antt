@@ -18,9 +18,9 @@ up-to table a b h =
     let n : a + (b - a) ≡ b = omega arith in omega (arith, beginning table.rows a (b - a), ap (λ m. entries_of (take m table.rows)) n)
 
 -- two ranges that meet have the entries of both together
-pub ranges-meet : (table : Table) (from between to : ℕ) → from ≤ between → between ≤ to → entries_of (rows_in table from between) + entries_of (rows_in table between to) ≡ entries_of (rows_in table from to)
-ranges-meet table from between to h k =
-    omega (arith, up-to table from between h, up-to table between to k, up-to table from to (omega arith))
+pub ranges-meet : (table : Table) (from middle to : ℕ) → from ≤ middle → middle ≤ to → entries_of (rows_in table from middle) + entries_of (rows_in table middle to) ≡ entries_of (rows_in table from to)
+ranges-meet table from middle to h k =
+    omega (arith, up-to table from middle h, up-to table middle to k, up-to table from to (omega arith))
 
 -- all rows have those of the table
 pub range-whole : (table : Table) → entries_of (rows_in table 0 (length table.rows)) ≡ entries_of table.rows

@@ -27,12 +27,12 @@ abbrev pub with_row : Row → Table → Table
 with_row row table = record { controls = table.controls; rows = table.rows ++ row ∷ [] }
 
 -- the arrays belong together, and have memory for this many more rows and entries
-pub record HaveRoom (arrays : Arrays) (rows entries : ℕ) : Type 0 where
+pub record HaveCapacity (arrays : Arrays) (rows entries : ℕ) : Type 0 where
   pub tied : AreTied arrays
-  pub end_room : length arrays.ends.items + rows ≤ vec_capacity arrays.ends
-  pub den_room : length arrays.denominators.items + rows ≤ vec_capacity arrays.denominators
-  pub index_room : length arrays.indices.items + entries ≤ vec_capacity arrays.indices
-  pub numerator_room : length arrays.numerators.items + entries ≤ arrays.numerators.capacity
+  pub end_capacity : length arrays.ends.items + rows ≤ vec_capacity arrays.ends
+  pub denominator_capacity : length arrays.denominators.items + rows ≤ vec_capacity arrays.denominators
+  pub index_capacity : length arrays.indices.items + entries ≤ vec_capacity arrays.indices
+  pub numerator_capacity : length arrays.numerators.items + entries ≤ arrays.numerators.capacity
 
 -- the arrays have memory for a row with this many entries
 pub record HaveSpace (arrays : Arrays) (entries : ℕ) : Type 0 where

@@ -27,17 +27,17 @@ pub struct TableBuilder {
 
 impl Model for TableBuilder {
     ghost use Rattle.stencil_apply.specs.Arrays.{table_of};
-    ghost use Rattle.stencil_apply.specs.Built.{Built, HaveRoom};
+    ghost use Rattle.stencil_apply.specs.Built.{Built, HaveCapacity};
 
     ghost Value = { Built };
 
     ghost view = { λ b. record { table = table_of b.arrays; width = b.arrays.numerators.width; room_rows = b.room_rows; room_entries = b.room_entries } };
 
-    ghost invariant = { λ b. HaveRoom b.arrays b.room_rows b.room_entries };
+    ghost invariant = { λ b. HaveCapacity b.arrays b.room_rows b.room_entries };
 }
 
 // Takes a row with `taken` entries from the reserved rows and entries.
-fn take_room(rows: &mut u32, entries: &mut u64, taken: usize)
+fn take_capacity(rows: &mut u32, entries: &mut u64, taken: usize)
     ensures rows { rows.new ≡ rows.old - 1 }
     ensures entries { entries.new ≡ entries.old - taken }
 {
@@ -123,7 +123,7 @@ impl TableBuilder {
     {
         reserve_row(&mut self.arrays, self.alloc, denominator, row.len())?;
         push_row(&mut self.arrays, denominator, row);
-        take_room(&mut self.room_rows, &mut self.room_entries, row.len());
+        take_capacity(&mut self.room_rows, &mut self.room_entries, row.len());
         Ok(())
     }
 
@@ -153,7 +153,7 @@ impl TableBuilder {
     {
         reserve_row(&mut self.arrays, self.alloc, denominator, indices.len())?;
         push_parts(&mut self.arrays, denominator, indices, numerators);
-        take_room(&mut self.room_rows, &mut self.room_entries, indices.len());
+        take_capacity(&mut self.room_rows, &mut self.room_entries, indices.len());
         Ok(())
     }
 

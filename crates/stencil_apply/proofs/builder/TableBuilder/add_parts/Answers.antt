@@ -1,6 +1,6 @@
 use Rattle.std.proofs.Common.{ap, sym}
 use Rattle.stencil_apply.specs.Built.{Built}
-use Rattle.stencil_apply.proofs.BuilderLemmas.{parts-small, width-enough, length-parts, end-short, table-added, room-added}
+use Rattle.stencil_apply.proofs.BuilderLemmas.{parts-small, width-enough, length-parts, end-short, table-added, capacity-left}
 use Rattle.stencil_apply.proofs.builder.TableBuilder.add_parts.Goals as goal
 
 pub push_parts-requires-clause-short : goal.push_parts-requires-clause-short
@@ -14,8 +14,8 @@ push_parts-requires-clause-small g c =
 
 pub invariant_of-self-2 : goal.invariant_of-self-2
 invariant_of-self-2 g c =
-    rw (c.take_room.ensures.rows, c.take_room.ensures.entries)
-    (room-added _ _ c.reserve_row.ensures.grown _ (ap (λ (b : Built). b.table) c.self.view_is) _ _ c.self.invariant _ c.requires.rows c.requires.entries
+    rw (c.take_capacity.ensures.rows, c.take_capacity.ensures.entries)
+    (capacity-left _ _ c.reserve_row.ensures.grown _ (ap (λ (b : Built). b.table) c.self.view_is) _ _ c.self.invariant _ c.requires.rows c.requires.entries
     _ _ c.push_parts.ensures (sym (length-parts g.T.Natural.value c.args.indices.now c.args.numerators.now c.requires.equal)) c.requires.row c.in_ok-reserve_row.ensures.space)
 
 pub returns-clause-added : goal.returns-clause-added
