@@ -85,18 +85,18 @@ some-below (Semi x y) part (inr h) = let no = h.1 in cc
 some-below Infinite part h = cc
 
 -- the mask of an edge where the faces have weights too
-between-mask : (s : Sharpness) (edge : ℕ × ℕ) (f g : ℕ) (part : ℕ × ℕ) → is_distinct (edge.0 ∷ edge.1 ∷ []) ≡ true
+below-one-mask : (s : Sharpness) (edge : ℕ × ℕ) (f g : ℕ) (part : ℕ × ℕ) → is_distinct (edge.0 ∷ edge.1 ∷ []) ≡ true
     → is_distinct (f ∷ g ∷ []) ≡ true → IsBelowOne s (Some part) → IsMask (around_over part.0 part.1 edge (f, g)) (mask_of_edge s edge (f ∷ g ∷ []))
-between-mask Smooth edge f g part once alone h =
+below-one-mask Smooth edge f g part points_once faces_once h =
     let e : part ≡ (0, 1) = cc in
-    rw e (around-mask 1 1 (edge.0 ∷ edge.1 ∷ []) (f ∷ g ∷ []) 4 (omega arith) (omega arith) once alone (mean-smooth_edge edge (f ∷ g ∷ []) refl))
-between-mask (Semi x y) edge f g part once alone (inl h) =
+    rw e (around-mask 1 1 (edge.0 ∷ edge.1 ∷ []) (f ∷ g ∷ []) 4 (omega arith) (omega arith) points_once faces_once (mean-smooth_edge edge (f ∷ g ∷ []) refl))
+below-one-mask (Semi x y) edge f g part points_once faces_once (inl h) =
     let e : part ≡ (x, y) = let same = h.1 in cc in
     let below = h.0 in
     rw (e, lt-leb y x below)
-    (around-mask (y + x) (y - x) (edge.0 ∷ edge.1 ∷ []) (f ∷ g ∷ []) (4 * y) (omega arith) (omega arith) once alone (mean-blended_edge x y edge (f ∷ g ∷ []) below refl))
-between-mask (Semi x y) edge f g part once alone (inr h) = let no = h.1 in cc
-between-mask Infinite edge f g part once alone h = cc
+    (around-mask (y + x) (y - x) (edge.0 ∷ edge.1 ∷ []) (f ∷ g ∷ []) (4 * y) (omega arith) (omega arith) points_once faces_once (mean-blended_edge x y edge (f ∷ g ∷ []) below refl))
+below-one-mask (Semi x y) edge f g part points_once faces_once (inr h) = let no = h.1 in cc
+below-one-mask Infinite edge f g part points_once faces_once h = cc
 
 module _ (t : Topology) (e : ℕ) (is : IsTopology t) (inside : e < length (edges_of t.level.polygons)) where
   abbrev edge : ℕ × ℕ
@@ -120,7 +120,7 @@ module _ (t : Topology) (e : ℕ) (is : IsTopology t) (inside : e < length (edge
       → f ∷ g ∷ [] ≡ faces_of_edge t.level.polygons edge → IsMask (around_over part.0 part.1 edge (f, g)) (edge_mask t.level scheme edge)
   edge-with CatmullClark part f g h two =
       let faces = faces-distinct t.level.polygons e f g (sym two) in
-      let found = between-mask kept edge f g part (ends-distinct t e is inside) faces h in
+      let found = below-one-mask kept edge f g part (ends-distinct t e is inside) faces h in
       subst (λ fs. IsMask (around_over part.0 part.1 edge (f, g)) (mask_of_edge (edge_sharpness_of t.level edge) edge fs)) two
       (subst (λ s. IsMask (around_over part.0 part.1 edge (f, g)) (mask_of_edge s edge (f ∷ g ∷ []))) kept-is found)
   edge-with Linear part f g h two = cc

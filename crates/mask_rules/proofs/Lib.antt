@@ -8,7 +8,7 @@ pub mod BoundLemmas
 pub mod VertexLemmas
 pub mod SharpLemmas
 pub mod EqualLemmas
-mod RoomLemmas
+mod GrowthLemmas
 pub mod SmoothLemmas
 pub mod PlainLemmas
 pub mod MadeLemmas

@@ -13,7 +13,7 @@ use Rattle.sharpness_laws.specs.SameWeights.{HaveSameWeights, is_joined}
 use Rattle.sharpness_laws.proofs.JoinedWeightLemmas.{weight_of, weight_in-cons, weight_in-append, weight_in-mask_of}
 use Rattle.sharpness_laws.proofs.MaskOrderLemmas.{weight_in-blend}
 use Rattle.sharpness_laws.proofs.TermOrderLemmas.{distinct-kept}
-use Rattle.mask_rules.specs.Spread.{vertex_weight, end_weight, face_weight, rule_denominator, end_terms, positive, terms_around, spread_terms, spread_mask, IsRuleAmong}
+use Rattle.mask_rules.specs.Spread.{vertex_weight, end_weight, end_share, face_weight, rule_denominator, end_terms, positive, terms_around, spread_terms, spread_mask, IsRuleAmong}
 use Rattle.mask_rules.proofs.TermLemmas.{distinct-around}
 
 -- a weight of 0 gives nothing
@@ -91,7 +91,7 @@ spread-weight parent child by rest v ends faces source =
     let n = length ends in
     omega (
       arith,
-      around-weight (by * vertex_weight parent n + rest * vertex_weight child n) (λ i. by * end_weight parent i + rest * end_weight child i)
+      around-weight (by * vertex_weight parent n + rest * vertex_weight child n) (end_share parent child by rest)
           (by * face_weight parent + rest * face_weight child) v ends faces source,
       ap (λ w. by * w) (around-weight (vertex_weight parent n) (end_weight parent) (face_weight parent) v ends faces source),
       ap (λ w. rest * w) (around-weight (vertex_weight child n) (end_weight child) (face_weight child) v ends faces source),
@@ -265,10 +265,10 @@ ends-once weight place (v ∷ ends) faces =
 -- a vertex, the other ends of its edges and its faces occur once each
 around-once : (own : ℕ) (weight : ℕ → ℕ) (face v : ℕ) (ends faces : List ℕ) → is_distinct (v ∷ ends) ≡ true → is_distinct faces ≡ true
     → has_distinct_sources (terms_around own weight face v ends faces) ≡ true
-around-once own weight face v ends faces once alone =
+around-once own weight face v ends faces points_once faces_once =
     let some : Term → Bool = λ t. same_source (OfPoint v) t.source in
     let others = weigh_faces face faces in
-    let whole = distinct-around 1 face (v ∷ ends) faces once alone in
+    let whole = distinct-around 1 face (v ∷ ends) faces points_once faces_once in
     let alike : has_source (end_terms weight 0 ends ++ others) (OfPoint v) ≡ has_source (weigh_points 1 ends ++ others) (OfPoint v) =
     list_any-append some (end_terms weight 0 ends) others
     ∙ ap (λ b. b || has_source others (OfPoint v)) (ends-source weight 0 ends (OfPoint v))
@@ -279,10 +279,10 @@ around-once own weight face v ends faces once alone =
 
 pub spread-joined : (parent child : Rule) (by rest q v : ℕ) (ends faces : List ℕ) → is_distinct (v ∷ ends) ≡ true → is_distinct faces ≡ true
     → is_joined (spread_mask parent child by rest q v ends faces) ≡ true
-spread-joined parent child by rest q v ends faces once alone =
+spread-joined parent child by rest q v ends faces points_once faces_once =
     let terms = spread_terms parent child by rest v ends faces in
     let n = length ends in
-    let distinct = around-once (by * vertex_weight parent n + rest * vertex_weight child n) (λ i. by * end_weight parent i + rest * end_weight child i)
-    (by * face_weight parent + rest * face_weight child) v ends faces once alone in
+    let distinct = around-once (by * vertex_weight parent n + rest * vertex_weight child n) (end_share parent child by rest)
+    (by * face_weight parent + rest * face_weight child) v ends faces points_once faces_once in
     and_from _ _ (distinct-kept (λ t. nat_lt 0 t.weight) terms distinct)
     (list_all-from_AllPass (λ t. nat_lt 0 t.weight) (positive terms) (filter_passes (λ t. nat_lt 0 t.weight) terms))

@@ -72,12 +72,12 @@ positive-faces w (f ∷ faces) h = and_from _ _ (lt-ltb 0 w h) (positive-faces w
 pub around-mask : (w u : ℕ) (points faces : List ℕ) (q : ℕ) → 0 < w → 0 < u → is_distinct points ≡ true → is_distinct faces ≡ true
     → is_mean (mask_of (weigh_points w points ++ weigh_faces u faces) q) ≡ true
     → IsMask (record { terms = weigh_points w points ++ weigh_faces u faces; denominator = q }) (mask_of (weigh_points w points ++ weigh_faces u faces) q)
-around-mask w u points faces q some also once alone mean =
+around-mask w u points faces q some also points_once faces_once mean =
     let terms = weigh_points w points ++ weigh_faces u faces in
     let positive : are_positive terms ≡ true =
     list_all-append (λ (t : Term). nat_lt 0 t.weight) (weigh_points w points) (weigh_faces u faces)
     ∙ and_from _ _ (positive-points w points some) (positive-faces u faces also) in
-    is-mask _ _ (and_from _ _ (distinct-around w u points faces once alone) positive)
+    is-mask _ _ (and_from _ _ (distinct-around w u points faces points_once faces_once) positive)
     (record { denominator = refl; weights = λ source. sym (weight_in-mask_of terms q source) }) mean
 
 pub points-mask : (w : ℕ) (points : List ℕ) (q : ℕ) → 0 < w → is_distinct points ≡ true → is_mean (mask_of (weigh_points w points) q) ≡ true

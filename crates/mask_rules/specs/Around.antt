@@ -2,9 +2,9 @@
 use Rattle.std.specs.Prelude.{◌≡◌, ℕ, ◌+◌, ◌<◌, ◌≤◌, Bool, true, not, ◌&&◌, IsTrue, List, [], length, map, get_or}
 use Rattle.subdiv_model.specs.Polygons.{Polygon}
 use Rattle.subdiv_model.specs.Sharpness.{Sharpness, Smooth, Infinite, uniform_child}
-use Rattle.subdiv_model.specs.Rule.{child_ring, vertex_rule, same_mask, transition_overflows}
+use Rattle.subdiv_model.specs.Rule.{Rule, child_ring, vertex_rule, same_mask, transition_overflows}
 use Rattle.subdiv_model.specs.Level.{Level, vertex_sharpness_of}
-use Rattle.subdiv_model.specs.Mask.{Mask, other_end, mask_of_vertex}
+use Rattle.subdiv_model.specs.Mask.{Mask, other_end, mask_of_rule, mask_of_vertex}
 use Rattle.subdiv_model.specs.Edges.{edges_of, has_end, is_boundary}
 use Rattle.level_topology.specs.Topology.{Topology, edge_at}
 use Rattle.mask_rules.specs.declared.mask.MaskFault.{MaskFault}
@@ -23,6 +23,10 @@ faces_in t v = get_or t.faces_at v []
 -- the sharpness of the edges
 abbrev pub ring_in : Topology → ℕ → List Sharpness
 ring_in t v = map (λ e. get_or t.level.edge_sharpness e Smooth) (get_or t.edges_at v [])
+
+-- the mask of a vertex by one rule
+abbrev pub rule_mask_in : Topology → ℕ → Rule → Mask
+rule_mask_in t v rule = mask_of_rule v (ends_in t v) (faces_in t v) rule
 
 -- the mask of a vertex by Catmull and Clark's scheme, its edges and faces in the order of the level's lists
 abbrev pub mask_in : Topology → ℕ → Mask

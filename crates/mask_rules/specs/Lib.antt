@@ -3,5 +3,6 @@ pub mod FaultText
 pub mod Masks
 pub mod Spread
 pub mod Around
-pub mod Room
+pub mod Growth
+pub mod Ring
 pub mod Smooth

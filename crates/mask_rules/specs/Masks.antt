@@ -1,8 +1,9 @@
 -- The relation between a mask of the code and a defined mask. The order of the terms is free.
 use Rattle.std.specs.Prelude.{◌≡◌, ℕ, ◌+◌, ◌-◌, ◌*◌, ◌<◌, ◌≤◌, ◌⊎◌, Bool, true, false, nat_le, Option, Some, None, [], ◌∷◌, ◌++◌, IsTrue}
+use Rattle.std.specs.List.{sum_by}
 use Rattle.subdiv_model.specs.Polygons.{Polygon}
 use Rattle.subdiv_model.specs.Sharpness.{Sharpness, Smooth, Semi, Infinite}
-use Rattle.subdiv_model.specs.Mask.{Mask, Scheme, CatmullClark, Linear, weigh_points, weigh_faces, is_mean, vertex_mask}
+use Rattle.subdiv_model.specs.Mask.{Mask, SourcePoint, Scheme, CatmullClark, Linear, weigh_points, weigh_faces, is_mean, vertex_mask}
 use Rattle.subdiv_model.specs.Level.{Level}
 use Rattle.subdiv_model.specs.Channel.{transition_overflows_at}
 use Rattle.sharpness_laws.specs.SameWeights.{HaveSameWeights, is_joined}
@@ -20,6 +21,10 @@ pub record IsMask (mask defined : Mask) : Type 0 where
 pub record IsJoinedAs (mask defined : Mask) : Type 0 where
   pub same : HaveSameWeights mask defined
   pub joined : IsTrue (is_joined mask)
+
+-- the weights of a mask times the numbers of their sources, summed
+abbrev pub weighted_sum : (SourcePoint → ℕ) → Mask → ℕ
+weighted_sum number mask = sum_by (λ t. t.weight * number t.source) mask.terms
 
 -- the mask is the defined one of a vertex under a scheme, and the weight between its rules is not refused
 abbrev pub IsVertexMask : Level → Scheme → ℕ → VertexMask → Type 0

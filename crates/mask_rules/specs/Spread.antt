@@ -43,11 +43,15 @@ positive terms = filter (λ t. nat_lt 0 t.weight) terms
 abbrev pub terms_around : ℕ → (ℕ → ℕ) → ℕ → ℕ → List ℕ → List ℕ → List Term
 terms_around own weight face v ends faces = weigh own (OfPoint v) ∷ (end_terms weight 0 ends ++ weigh_faces face faces)
 
+-- `by` times the weight of an end by one rule, and `rest` times that by another
+abbrev pub end_share : Rule → Rule → ℕ → ℕ → ℕ → ℕ
+end_share parent child by rest place = by * end_weight parent place + rest * end_weight child place
+
 -- `by` times the weights by one rule, and `rest` times those by another
 abbrev pub spread_terms : Rule → Rule → ℕ → ℕ → ℕ → List ℕ → List ℕ → List Term
 spread_terms parent child by rest v ends faces =
     terms_around (by * vertex_weight parent (length ends) + rest * vertex_weight child (length ends))
-    (λ place. by * end_weight parent place + rest * end_weight child place)
+    (end_share parent child by rest)
     (by * face_weight parent + rest * face_weight child) v ends faces
 
 abbrev pub spread_mask : Rule → Rule → ℕ → ℕ → ℕ → ℕ → List ℕ → List ℕ → Mask

@@ -1,14 +1,14 @@
 //! The masks of plain vertices, which take no memory and never fail. A vertex is plain where nothing is sharp and few edges
 //! meet, and always under the linear scheme.
 
-ghost use Rattle.std.specs.Prelude.{◌≡◌, ◌+◌, ◌*◌, ◌-◌, ◌<◌, ◌≤◌, true, false, [], ◌++◌, ◌∷◌, length, get_or};
+ghost use Rattle.std.specs.Prelude.{◌≡◌, ◌+◌, ◌<◌, ◌≤◌, true, false, [], ◌++◌, ◌∷◌, length, get_or};
 ghost use Rattle.subdiv_model.specs.Mask.{CatmullClark, OfPoint, weigh, weigh_faces, corner_mask, vertex_mask};
 ghost use Rattle.subdiv_model.specs.Channel.{transition_overflows_at};
 ghost use Rattle.mask_rules.specs.View.{scheme_of};
-ghost use Rattle.mask_rules.specs.Spread.{end_terms, positive, terms_around};
+ghost use Rattle.mask_rules.specs.Spread.{end_terms, positive};
 ghost use Rattle.mask_rules.specs.Masks.{IsMask, IsJoinedAs};
 ghost use Rattle.mask_rules.specs.Around.{ends_in, faces_in, mask_in, HasFewTerms, HasSharpBoundaryAt};
-ghost use Rattle.mask_rules.specs.Smooth.{IsSmoothAt, IsPlainAt};
+ghost use Rattle.mask_rules.specs.Smooth.{IsSmoothAt, IsPlainAt, smooth_mask_in};
 
 use crate::made::MadeMask;
 use crate::mask::{At, Scheme};
@@ -34,7 +34,7 @@ impl MadeMask {
     // Adds the other ends of the edges, each with the weight 1.
     fn put_ends(&mut self, level: &Level, v: u32)
         requires known { v < level.now.level.point_count }
-        requires room { length self.old.terms + length (get_or level.now.edges_at v []) ≤ 16 }
+        requires fits { length self.old.terms + length (get_or level.now.edges_at v []) ≤ 16 }
         ensures terms { self.new.terms ≡ self.old.terms ++ positive (end_terms (λ i. 1) 0 (ends_in level.now v)) }
         ensures few { length self.new.terms ≤ length self.old.terms + length (get_or level.now.edges_at v []) }
         ensures denominator { self.new.denominator ≡ self.old.denominator }
@@ -48,7 +48,7 @@ impl MadeMask {
     // Adds the faces, each with the weight 1.
     fn put_faces(&mut self, level: &Level, v: u32)
         requires known { v < level.now.level.point_count }
-        requires room { length self.old.terms + length (faces_in level.now v) ≤ 16 }
+        requires fits { length self.old.terms + length (faces_in level.now v) ≤ 16 }
         ensures terms { self.new.terms ≡ self.old.terms ++ positive (weigh_faces 1 (faces_in level.now v)) }
         ensures denominator { self.new.denominator ≡ self.old.denominator }
     {
@@ -61,10 +61,7 @@ impl MadeMask {
     fn put_around(&mut self, level: &Level, v: u32)
         requires known { v < level.now.level.point_count }
         requires few { HasFewTerms level.now v }
-        ensures { self.new ≡ record {
-          terms = positive (terms_around (length (ends_in level.now v) * (length (ends_in level.now v) - 2)) (λ i. 1) 1 v (ends_in level.now v) (faces_in level.now v));
-          denominator = length (ends_in level.now v) * length (ends_in level.now v);
-        } }
+        ensures { self.new ≡ smooth_mask_in level.now v }
     {
         let valence = level.vertex_edges(v).len() as u128;
         self.put_vertex(v, valence * valence.saturating_sub(2), valence * valence);

@@ -1,13 +1,11 @@
 //! The ring of a vertex: the sharpness of its edges, in its level and in the next level.
 
-ghost use Rattle.std.specs.Prelude.{◌≡◌, ℕ, ◌<◌, ◌^◌, false, List, length, map, get_or};
-ghost use Rattle.subdiv_model.specs.Sharpness.{Chaikin, half_child, chaikin_overflows};
+ghost use Rattle.std.specs.Prelude.{◌≡◌, ◌<◌, ◌^◌, false, length, map};
+ghost use Rattle.subdiv_model.specs.Sharpness.{Chaikin, chaikin_overflows};
 ghost use Rattle.subdiv_model.specs.Rule.{child_ring, same_mask, is_smooth_or_dart, is_crease_of};
-ghost use Rattle.sharpness_rules.specs.declared.child.Method.{Method};
-ghost use Rattle.sharpness_rules.specs.declared.sharpness.Sharpness.{Sharpness};
 ghost use Rattle.sharpness_rules.specs.View.{sharpness_of, method_of, rule_of};
-ghost use Rattle.sharpness_rules.specs.Halves.{AreHalves, halves_overflow};
 ghost use Rattle.mask_rules.specs.Around.{ring_in};
+ghost use Rattle.mask_rules.specs.Ring.{IsHalf};
 
 use level_topology::Level;
 use sharpness_rules::{Halves, Method, Rule, Sharpness};
@@ -15,7 +13,7 @@ use sharpness_rules::{Halves, Method, Rule, Sharpness};
 // Writes the sharpness of each edge at a vertex.
 pub(crate) fn put_ring(level: &Level, v: u32, ring: &mut [Sharpness])
     requires known { v < level.now.level.point_count }
-    requires room { length ring.old ≡ length (ring_in level.now v) }
+    requires len { length ring.old ≡ length (ring_in level.now v) }
     ensures { map sharpness_of ring.new ≡ ring_in level.now v }
 {
     level.facts();
@@ -26,8 +24,7 @@ pub(crate) fn put_ring(level: &Level, v: u32, ring: &mut [Sharpness])
 
 // Returns the sharpness of the half of an edge, in a ring whose halves do not overflow.
 fn half_of(halves: Halves, s: Sharpness) -> Sharpness
-    ensures { (method : Method) (ring : List Sharpness) (at : ℕ) → AreHalves method ring halves → halves_overflow method ring ≡ false
-        → at < length ring → s ≡ get_or ring at s → sharpness_of result ≡ half_child (method_of method) (map sharpness_of ring) (sharpness_of s) }
+    ensures { IsHalf halves s result }
 {
     match halves.half(s) {
         Ok(half) => half,
@@ -37,7 +34,7 @@ fn half_of(halves: Halves, s: Sharpness) -> Sharpness
 
 // Writes the sharpness of the half of each edge.
 pub(crate) fn put_child_ring(method: Method, ring: &[Sharpness], next: &mut [Sharpness])
-    requires room { length next.old ≡ length ring.now }
+    requires len { length next.old ≡ length ring.now }
     requires short { length ring.now < 2 ^ 32 }
     requires fine { method_of method ≡ Chaikin → chaikin_overflows (map sharpness_of ring.now) ≡ false }
     ensures { map sharpness_of next.new ≡ child_ring (method_of method) (map sharpness_of ring.now) }

@@ -3,18 +3,18 @@
 ghost use Rattle.std.specs.Prelude.{◌≡◌, ◌+◌, ◌<◌, ◌≤◌, ◌^◌, true, false, IsTrue, [], length, map, get_or, IsOk, IfOk, IfErr, MatchResult};
 ghost use Rattle.subdiv_model.specs.Sharpness.{Chaikin, chaikin_overflows};
 ghost use Rattle.subdiv_model.specs.Rule.{child_ring};
-ghost use Rattle.subdiv_model.specs.Mask.{CatmullClark, mask_of_rule, transition_mask};
+ghost use Rattle.subdiv_model.specs.Mask.{CatmullClark, transition_mask};
 ghost use Rattle.subdiv_model.specs.Channel.{chaikin_overflows_at, transition_overflows_at};
 ghost use Rattle.sharpness_rules.specs.View.{sharpness_of, rule_of};
 ghost use Rattle.mask_rules.specs.View.{scheme_of, seen_vertex};
 ghost use Rattle.mask_rules.specs.Spread.{IsRuleAmong};
 ghost use Rattle.mask_rules.specs.Masks.{IsVertexMask, IsJoinedAs};
-ghost use Rattle.mask_rules.specs.Around.{ends_in, faces_in, ring_in, mask_in, is_refused_in, IsFaultWhere, HasSharpBoundaryAt, HasFewTerms};
+ghost use Rattle.mask_rules.specs.Around.{ends_in, ring_in, rule_mask_in, mask_in, is_refused_in, IsFaultWhere, HasSharpBoundaryAt, HasFewTerms};
 
 use crate::mask::{MaskFault, Scheme};
 use crate::ring::{is_same_mask, put_child_ring, put_ring};
 use crate::smooth::{is_smooth_at, smooth_mask};
-use crate::vertex::{VertexMask, alone, one_rule, two_rules};
+use crate::vertex::{VertexMask, corner_mask, one_rule, two_rules};
 use level_topology::Level;
 use ratio128::Memory;
 use sharpness_rules::{Rule, Sharpness, Weight, transition_weight, uniform_child, vertex_rule};
@@ -38,8 +38,7 @@ fn weighed(
     requires part { weight.num ≤ weight.den }
     requires short { weight.den ≤ 2 ^ 60 }
     ensures mask { IfOk result (λ m. IsJoinedAs (seen_vertex m) (transition_mask (weight.num, weight.den)
-        (mask_of_rule v (ends_in level.now v) (faces_in level.now v) (rule_of parent))
-        (mask_of_rule v (ends_in level.now v) (faces_in level.now v) (rule_of child)))) }
+        (rule_mask_in level.now v (rule_of parent)) (rule_mask_in level.now v (rule_of child)))) }
     ensures fault { IfErr result (λ fault. fault ≡ MaskFault.Memory) }
     ensures few { HasFewTerms level.now v → IsOk result }
 {
@@ -51,7 +50,7 @@ fn weighed(
 }
 
 // Returns the mask between the rules of two rings of the same edges.
-fn between(
+fn mask_of_rings(
     alloc: Global,
     level: &Level,
     v: u32,
@@ -88,8 +87,8 @@ fn from_rings(
     next: &mut [Sharpness],
 ) -> Result<VertexMask, MaskFault>
     requires known { v < level.now.level.point_count }
-    requires room { length ring.old ≡ length (ring_in level.now v) }
-    requires beside { length next.old ≡ length (ring_in level.now v) }
+    requires ring_len { length ring.old ≡ length (ring_in level.now v) }
+    requires next_len { length next.old ≡ length (ring_in level.now v) }
     requires short { length ring.old < 2 ^ 32 }
     requires fine { level.now.level.method ≡ Chaikin → chaikin_overflows (ring_in level.now v) ≡ false }
     ensures mask { MatchResult result (λ m. IsJoinedAs (seen_vertex m) (mask_in level.now v) × (is_refused_in level.now v ≡ false))
@@ -98,7 +97,7 @@ fn from_rings(
 {
     put_ring(level, v, ring);
     put_child_ring(level.method(), ring, next);
-    between(alloc, level, v, ring, next)
+    mask_of_rings(alloc, level, v, ring, next)
 }
 
 // Returns the mask under Catmull and Clark's scheme, in the order of the level's lists.
@@ -157,6 +156,6 @@ pub fn vertex_mask(
     level.facts();
     match scheme {
         Scheme::CatmullClark => by_rules(alloc, level, v),
-        Scheme::Linear => Ok(alone(alloc, v)),
+        Scheme::Linear => Ok(corner_mask(alloc, v)),
     }
 }

@@ -3,14 +3,14 @@
 ghost use Rattle.std.specs.Prelude.{◌≡◌, ◌<◌, ◌≤◌, ◌+◌, ◌*◌, ◌^◌, true, IsTrue, [], ◌∷◌, ◌++◌, length, map, get_or, IsOk, OnOk, IfOk, IfErr};
 ghost use Rattle.subdiv_model.specs.Edges.{edges_of};
 ghost use Rattle.subdiv_model.specs.Multiples.{lcm_of};
-ghost use Rattle.subdiv_model.specs.Mask.{weigh, weigh_faces, corner_mask, mask_of_rule, blend};
+ghost use Rattle.subdiv_model.specs.Mask.{weigh, weigh_faces, corner_mask, blend};
 ghost use Rattle.sharpness_rules.specs.View.{rule_of};
 ghost use Rattle.level_topology.specs.Topology.{edge_at};
 ghost use Rattle.mask_rules.specs.View.{source_of, terms_of, seen_vertex};
-ghost use Rattle.mask_rules.specs.Spread.{vertex_weight, end_weight, face_weight, rule_denominator, end_terms, positive, spread_mask, IsRuleAmong};
+ghost use Rattle.mask_rules.specs.Spread.{vertex_weight, end_weight, face_weight, rule_denominator, end_share, end_terms, spread_mask, IsRuleAmong};
 ghost use Rattle.mask_rules.specs.Masks.{IsMask, IsJoinedAs};
-ghost use Rattle.mask_rules.specs.Around.{end_of_edge, ends_in, faces_in, HasFewTerms};
-ghost use Rattle.mask_rules.specs.Room.{Grows};
+ghost use Rattle.mask_rules.specs.Around.{end_of_edge, ends_in, faces_in, rule_mask_in, HasFewTerms};
+ghost use Rattle.mask_rules.specs.Growth.{Grows, GetsTerms};
 ghost use Rattle.smallvec.specs.SmallVec.{HasRoomFor};
 
 use crate::mask::{At, MaskFault, Term};
@@ -114,7 +114,7 @@ impl Parts {
 
     fn of_end(self, place: usize) -> u128
         requires small { self.by + self.rest < 2 ^ 128 }
-        ensures { result ≡ self.by * end_weight (rule_of self.parent) place + self.rest * end_weight (rule_of self.child) place }
+        ensures { result ≡ end_share (rule_of self.parent) (rule_of self.child) self.by self.rest place }
     {
         self.by * end_weight(self.parent, place) + self.rest * end_weight(self.child, place)
     }
@@ -129,7 +129,7 @@ impl Parts {
 
 // Adds a term, unless its weight is 0.
 fn put(terms: &mut SmallVec<Term, 16>, at: At, weight: u128) -> Result<(), Memory>
-    ensures terms { OnOk result (terms_of terms.new.items ≡ terms_of terms.old.items ++ positive (weigh weight (source_of at) ∷ [])) }
+    ensures terms { OnOk result (GetsTerms terms.old (weigh weight (source_of at) ∷ []) terms.new) }
     ensures grows { OnOk result (Grows terms.old 1 terms.new) }
     ensures room { HasRoomFor terms.old 1 → IsOk result }
 {
@@ -148,8 +148,8 @@ fn put_ends(
 ) -> Result<(), Memory>
     requires known { v < level.now.level.point_count }
     requires small { parts.by + parts.rest < 2 ^ 128 }
-    ensures terms { OnOk result (terms_of terms.new.items ≡ terms_of terms.old.items
-        ++ positive (end_terms (λ i. parts.by * end_weight (rule_of parts.parent) i + parts.rest * end_weight (rule_of parts.child) i) 0 (ends_in level.now v))) }
+    ensures terms { OnOk result (GetsTerms terms.old
+        (end_terms (end_share (rule_of parts.parent) (rule_of parts.child) parts.by parts.rest) 0 (ends_in level.now v)) terms.new) }
     ensures grows { OnOk result (Grows terms.old (length (get_or level.now.edges_at v [])) terms.new) }
     ensures room { HasRoomFor terms.old (length (get_or level.now.edges_at v [])) → IsOk result }
 {
@@ -172,7 +172,7 @@ fn put_faces(
     weight: u128,
 ) -> Result<(), Memory>
     requires { v < level.now.level.point_count }
-    ensures terms { OnOk result (terms_of terms.new.items ≡ terms_of terms.old.items ++ positive (weigh_faces weight (faces_in level.now v))) }
+    ensures terms { OnOk result (GetsTerms terms.old (weigh_faces weight (faces_in level.now v)) terms.new) }
     ensures grows { OnOk result (Grows terms.old (length (faces_in level.now v)) terms.new) }
     ensures room { HasRoomFor terms.old (length (faces_in level.now v)) → IsOk result }
 {
@@ -208,7 +208,7 @@ pub(crate) fn spread(
 }
 
 // Returns the mask that gives all weight to the vertex.
-pub(crate) fn alone(alloc: Global, v: u32) -> VertexMask
+pub(crate) fn corner_mask(alloc: Global, v: u32) -> VertexMask
     ensures { IsMask (seen_vertex result) (corner_mask v) }
 {
     let mut terms = SmallVec::new(alloc);
@@ -231,13 +231,13 @@ pub(crate) fn one_rule(
 ) -> Result<VertexMask, MaskFault>
     requires known { v < level.now.level.point_count }
     requires among { IsRuleAmong (rule_of rule) (length (ends_in level.now v)) }
-    ensures mask { IfOk result (λ m. IsJoinedAs (seen_vertex m) (mask_of_rule v (ends_in level.now v) (faces_in level.now v) (rule_of rule))) }
+    ensures mask { IfOk result (λ m. IsJoinedAs (seen_vertex m) (rule_mask_in level.now v (rule_of rule))) }
     ensures fault { IfErr result (λ fault. fault ≡ MaskFault.Memory) }
     ensures few { HasFewTerms level.now v → IsOk result }
 {
     level.facts();
     if rule == Rule::Corner {
-        return Ok(alone(alloc, v));
+        return Ok(corner_mask(alloc, v));
     }
     let valence = level.vertex_edges(v).len() as u64;
     let parts = Parts {
@@ -273,8 +273,7 @@ pub(crate) fn two_rules(
     requires part { weight.num ≤ weight.den }
     requires short { weight.den ≤ 2 ^ 60 }
     ensures mask { IfOk result (λ m. IsJoinedAs (seen_vertex m) (blend (weight.num, weight.den)
-        (mask_of_rule v (ends_in level.now v) (faces_in level.now v) (rule_of parent))
-        (mask_of_rule v (ends_in level.now v) (faces_in level.now v) (rule_of child)))) }
+        (rule_mask_in level.now v (rule_of parent)) (rule_mask_in level.now v (rule_of child)))) }
     ensures fault { IfErr result (λ fault. fault ≡ MaskFault.Memory) }
     ensures few { HasFewTerms level.now v → IsOk result }
 {

@@ -13,7 +13,7 @@ loop-place-preserved c =
     let place = c.loop-place.place in
     let within : place < length ring = omega (arith, length-map c.args.ring.now sharpness_of) in
     let target : place < length (child_ring (method_of c.args.method) ring) = omega (arith, length-map ring half) in
-    let inside : place < length c.loop-place.next = omega (arith, c.loop-place.auto.next, c.requires.room) in
+    let inside : place < length c.loop-place.next = omega (arith, c.loop-place.auto.next, c.requires.len) in
     let made = c.half_of.ensures c.args.method c.args.ring.now place c.of-halves.ensures (none-overflow c.args.method c.args.ring.now c.requires.fine) c.loop-place-test.true c.index-ring-place.is in
     let here = get_or-map half ring place Smooth Smooth within ∙ ap half (get_or-map sharpness_of c.args.ring.now place c.index-ring-place.result Smooth c.loop-place-test.true ∙ ap sharpness_of (sym c.index-ring-place.is)) in
     ring-step sharpness_of c.loop-place.next place c.half_of.result (child_ring (method_of c.args.method) ring) inside target c.loop-place.invariant

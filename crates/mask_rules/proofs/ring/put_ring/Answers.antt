@@ -20,7 +20,7 @@ loop-place-preserved c =
     let kept : ℕ → Sharpness = λ e. get_or t.level.edge_sharpness e Smooth in
     let within : c.loop-place.place < length items = omega (arith, ap length c.vertex_edges-e-items.ensures) in
     let target : c.loop-place.place < length (ring_in t c.args.v) = omega (arith, length-map items kept) in
-    let inside : c.loop-place.place < length c.loop-place.ring = omega (arith, c.loop-place.auto.ring, c.requires.room) in
+    let inside : c.loop-place.place < length c.loop-place.ring = omega (arith, c.loop-place.auto.ring, c.requires.len) in
     ring-step sharpness_of c.loop-place.ring c.loop-place.place c.edge_sharpness.result (ring_in t c.args.v) inside target c.loop-place.invariant
     (c.edge_sharpness.ensures ∙ ap (λ es. kept (get_or es c.loop-place.place 0)) c.vertex_edges-e-items.ensures
     ∙ sym (get_or-map kept items c.loop-place.place 0 Smooth within))

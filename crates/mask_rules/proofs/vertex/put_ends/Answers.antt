@@ -1,12 +1,12 @@
-use Rattle.std.proofs.Common.{◌<◌, ◌+◌, ◌*◌, ap, sym, ◌∙◌, arith, length, get_or, []}
+use Rattle.std.proofs.Common.{◌<◌, ap, sym, ◌∙◌, arith, length, get_or, []}
 use Rattle.std.proofs.lemmas.List.{length-map, get_or-map}
 use Rattle.sharpness_rules.specs.View.{rule_of}
 use Rattle.level_topology.proofs.LawLemmas.{edges-each}
 use Rattle.mask_rules.specs.View.{terms_of}
-use Rattle.mask_rules.specs.Spread.{end_weight}
+use Rattle.mask_rules.specs.Spread.{end_share}
 use Rattle.mask_rules.specs.Around.{end_of_edge, ends_in}
 use Rattle.mask_rules.proofs.WalkLemmas.{ends-step}
-use Rattle.mask_rules.proofs.RoomLemmas.{grows-then}
+use Rattle.mask_rules.proofs.GrowthLemmas.{grows-then}
 use Rattle.mask_rules.proofs.vertex.put_ends.Goals as goal
 
 pub other_end-requires : goal.other_end-requires
@@ -24,7 +24,7 @@ loop-place-preserved c =
     let inside : c.loop-place.place < length (ends_in t c.args.v) = omega (arith, length-map items number) in
     let end = c.other_end.ensures ∙ ap (λ es. number (get_or es c.loop-place.place 0)) c.vertex_edges-e-items.ensures
     ∙ sym (get_or-map number items c.loop-place.place 0 0 within) in (
-      ends-step (λ i. c.args.parts.by * end_weight (rule_of c.args.parts.parent) i + c.args.parts.rest * end_weight (rule_of c.args.parts.child) i)
+      ends-step (end_share (rule_of c.args.parts.parent) (rule_of c.args.parts.child) c.args.parts.by c.args.parts.rest)
           (ends_in t c.args.v) c.loop-place.place c.of_end.result c.other_end.result (terms_of c.args.terms.now.items) (terms_of c.loop-place.terms.items)
           (terms_of c.put.new.terms.items) inside c.loop-place.invariant.0 c.in_ok-put.ensures.terms c.of_end.ensures end,
       grows-then _ _ _ c.loop-place.place 1 c.loop-place.invariant.1 c.in_ok-put.ensures.grows,

@@ -3,7 +3,7 @@ use Rattle.subdiv_model.specs.Mask.{weigh_faces}
 use Rattle.mask_rules.specs.View.{terms_of}
 use Rattle.mask_rules.specs.Spread.{positive}
 use Rattle.mask_rules.specs.Around.{faces_in}
-use Rattle.mask_rules.specs.Room.{Grows}
+use Rattle.mask_rules.specs.Growth.{Grows}
 use Rattle.mask_rules.proofs.vertex.put_faces.Given as goal
 
 abbrev pub invariant-loop-f : goal.invariant-loop-f

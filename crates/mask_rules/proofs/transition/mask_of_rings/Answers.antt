@@ -2,7 +2,7 @@ use Rattle.std.proofs.Common.{◌∙◌, ap, arith, length, map}
 use Rattle.std.proofs.lemmas.List.{length-map}
 use Rattle.sharpness_rules.specs.View.{sharpness_of, rule_of}
 use Rattle.mask_rules.proofs.VertexLemmas.{rule-around, ring-long, child-long}
-use Rattle.mask_rules.proofs.transition.between.Goals as goal
+use Rattle.mask_rules.proofs.transition.mask_of_rings.Goals as goal
 
 pub one_rule-requires-clause-among : goal.one_rule-requires-clause-among
 one_rule-requires-clause-among c =

@@ -2,7 +2,7 @@
 use Rattle.std.proofs.Common.{◌≡◌, ℕ, ◌+◌, ◌≤◌, arith, ◌∙◌}
 use Rattle.smallvec.specs.SmallVec.{SmallVec, small_vec_len, HasRoomFor}
 use Rattle.mask_rules.specs.declared.mask.Term.{Term}
-use Rattle.mask_rules.specs.Room.{Grows}
+use Rattle.mask_rules.specs.Growth.{Grows}
 
 -- memory for both is memory for the second after the first
 pub room-after : (old now : SmallVec Term) (first second : ℕ) → Grows old first now → HasRoomFor old (first + second) → HasRoomFor now second
