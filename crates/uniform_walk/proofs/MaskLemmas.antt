@@ -20,9 +20,9 @@ use Rattle.uniform_walk.proofs.OriginLemmas.{masks-of-all, terms-of-all, vertex-
 -- an edge of one face is infinitely sharp, by its number
 infinite-at : (t : Topology) → IsTopology t → has_sharp_boundary t.level ≡ true → (e : ℕ) → e < length (edges_of t.level.polygons)
     → is_boundary t.level.polygons (edge_at t.level.polygons e) ≡ true → get_or t.level.edge_sharpness e Smooth ≡ Infinite
-infinite-at t is sharp e inside alone =
+infinite-at t is sharp e inside one_face =
     ap (λ n. get_or t.level.edge_sharpness n Smooth) (sym (own-number t.level.polygons e inside))
-    ∙ is-infinite _ (sharp-at t.level is.simple sharp (edge_at t.level.polygons e) alone)
+    ∙ is-infinite _ (sharp-at t.level is.simple sharp (edge_at t.level.polygons e) one_face)
 
 -- an edge of one face or two that has not one
 two_faces : (n : ℕ) → nat_eq n 1 ≡ false → 1 ≤ n → n ≤ 2 → n ≡ 2
@@ -51,7 +51,7 @@ module _ (parent : Topology) (child : ChildTopology) (refined : IsRefined parent
     edges = ap (λ (c : ChildTopology). c.parent_edges) refined.uniform.of;
     complete = λ v h. ap (λ marks. get_or marks v false) complete ∙ get_or-replicate parent.level.point_count v true false (vertex-of v h);
     inside = λ same e h. inside e (edge-of e h);
-    boundary = λ same v h e within ends alone. infinite-at parent is boundary e within alone;
+    boundary = λ same v h e within ends one_face. infinite-at parent is boundary e within one_face;
     fine = λ same v h. refined.fine v (vertex-of v h);
   }
     where
@@ -62,8 +62,8 @@ module _ (parent : Topology) (child : ChildTopology) (refined : IsRefined parent
           go : (b : Bool) → is_boundary parent.level.polygons (edge_at parent.level.polygons e) ≡ b
               → (1 ≤ length (faces_of_edge parent.level.polygons (edge_at parent.level.polygons e))) × (length (faces_of_edge parent.level.polygons (edge_at parent.level.polygons e)) ≤ 2)
               → (length (faces_of_edge parent.level.polygons (edge_at parent.level.polygons e)) ≡ 2) ⊎ IsTrue (is_at_least_one (get_or parent.level.edge_sharpness e Smooth))
-          go true alone few = inr (ap is_at_least_one (infinite-at parent is boundary e within alone))
-          go false alone few = inl (two_faces (length (faces_of_edge parent.level.polygons (edge_at parent.level.polygons e))) alone few.0 few.1)
+          go true one_face few = inr (ap is_at_least_one (infinite-at parent is boundary e within one_face))
+          go false one_face few = inl (two_faces (length (faces_of_edge parent.level.polygons (edge_at parent.level.polygons e))) one_face few.0 few.1)
 
   -- the masks and their terms are those of the next level
   pub masks-are : (scheme : Scheme) → masks_from parent.level scheme child.origins ≡ child_masks parent.level scheme

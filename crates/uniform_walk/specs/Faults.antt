@@ -3,9 +3,10 @@
 use Rattle.std.specs.Prelude.{ℕ, ◌≡◌, ◌-◌, ◌^◌, ◌<◌, ◌≤◌, [], length, Some}
 use Rattle.std.specs.List.{sum_by}
 use Rattle.subdiv_model.specs.Lists.{first_of}
+use Rattle.subdiv_model.specs.Level.{Level}
 use Rattle.subdiv_model.specs.Fault as model
 use Rattle.subdiv_model.specs.Fault.{Fault, Track}
-use Rattle.subdiv_model.specs.Channel.{Channel, Asked, channel_level, channel_faults}
+use Rattle.subdiv_model.specs.Channel.{Channel, Asked, Sharpnesses, channel_level, channel_faults}
 use Rattle.level_walk.specs.View.{kind_of}
 use Rattle.level_walk.specs.declared.fault.Cause.{Cause}
 use Rattle.level_walk.specs.declared.fault.Cause.TheVariants.{TooManyFaces, Overflow, TooManyEntries, Memory}
@@ -38,3 +39,7 @@ IsLevelFault asked channel depth level Memory = Unit {0}
 -- the reason why the channel does not reach a depth
 abbrev pub IsChannelFault : Asked → Channel → ℕ → WalkFault → Type 0
 IsChannelFault asked channel depth fault = IsLevelFault asked channel depth fault.level fault.cause
+
+-- the reason why no channel over this level reaches a depth: the first fault of sharpness
+abbrev pub IsFaultOfLevels : Level → ℕ → WalkFault → Type 0
+IsFaultOfLevels base depth fault = (channel : Channel) → channel.base ≡ base → IsChannelFault Sharpnesses channel depth fault
