@@ -74,10 +74,6 @@ CanValueAll controls first levels = (k : ℕ) (d : KeptLevel Table) → k < leng
 abbrev pub valued : List (List ℤ) → List ℕ → KeptLevel Table → SparseRows
 valued controls order level = record { written = level.faces; rows = evaluated (rows_at level.carried order) controls }
 
--- the values of the level behind `k` others
-abbrev pub valued_after : List (List ℤ) → List ℕ → ℕ → KeptLevel Table → SparseRows
-valued_after controls first k level = valued controls (kept_order first k level) level
-
 -- the number of entries of the rows of the written points
 abbrev pub valued_entries : List ℕ → KeptLevel Table → ℕ
 valued_entries order level = entries_of (rows_at level.carried order).rows

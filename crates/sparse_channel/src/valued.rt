@@ -1,8 +1,8 @@
 //! The values of the written points of sparse levels.
 
 ghost use Rattle.std.specs.Prelude.{◌≡◌, ◌+◌, ◌≤◌, [], ◌∷◌, ◌++◌, length, map, IfOk, OnOk};
-ghost use Rattle.sparse_channel.specs.Composed.{CanValue, CanValueAll, kept_order, valued, valued_after, valued_entries, valued_from, entries_in};
-ghost use Rattle.sparse_channel.specs.View.{all_rows, sparse_rows};
+ghost use Rattle.sparse_channel.specs.Composed.{CanValue, CanValueAll, kept_order, valued, valued_entries, valued_from, entries_in};
+ghost use Rattle.sparse_channel.specs.View.{sparse_rows};
 
 use crate::rows::evaluate_rows;
 use channel_refine::evaluate;
@@ -79,7 +79,7 @@ fn push_values<P: Primvar<L>, L: Ledger>(
     steps: &mut Steps<L>,
 ) -> Result<(), Memory>
     requires { CanValue (map P.numbers controls.now) (kept_order first.now (length levels.old.items) level) level }
-    ensures values { OnOk result (all_rows P.numbers levels.new.items ≡ all_rows P.numbers levels.old.items ++ valued_after (map P.numbers controls.now) first.now (length levels.old.items) level ∷ []) }
+    ensures values { OnOk result (map (sparse_rows P.numbers) levels.new.items ≡ map (sparse_rows P.numbers) levels.old.items ++ valued (map P.numbers controls.now) (kept_order first.now (length levels.old.items) level) level ∷ []) }
     ensures count { OnOk result (length levels.new.items ≡ length levels.old.items + 1) }
     ensures steps { steps.new ≤ steps.old + valued_entries (kept_order first.now (length levels.old.items) level) level }
     ensures later { steps.old ≤ steps.new }
