@@ -17,7 +17,8 @@ use Rattle.part_laws.proofs.PlaceLemmas.{among-range}
 use Rattle.part_laws.proofs.SelfLemmas.{self-level}
 use Rattle.sparse_laws.specs.SparseLevels.{IsSparse, name_in, whole_base}
 use Rattle.sparse_laws.proofs.NameLemmas.{part-renamed}
-use Rattle.sparse_laws.proofs.FactLemmas.{all-among, all-own}
+use Rattle.sparse_laws.proofs.FactLemmas.{all-own}
+use Rattle.sparse_laws.proofs.CornerLemmas.{all-among}
 
 -- each number of a range is among its numbers
 range-own : (count n : ℕ) → n < count → is_among (range_with_len 0 count) n ≡ true

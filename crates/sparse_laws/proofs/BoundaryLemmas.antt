@@ -47,7 +47,7 @@ own-number : (polygons : List Polygon) (e : ℕ) → e < length (edges_of polygo
 own-number polygons e inside = own-place (edges_of polygons) e inside (first_named-once (get_or (edges_of polygons) e (0, 0)) (all_sides polygons))
 
 pub sharp-at-complete : (kept : Kept) (e v : ℕ) → HasSharpBoundary kept.base → get_or kept.sparse.complete v false ≡ true → e < length (edges_of kept.sparse.level.polygons) → has_end v (get_or (edges_of kept.sparse.level.polygons) e (0, 0)) ≡ true → is_boundary kept.sparse.level.polygons (get_or (edges_of kept.sparse.level.polygons) e (0, 0)) ≡ true → get_or kept.sparse.level.edge_sharpness e Smooth ≡ Infinite
-sharp-at-complete kept e v sharp mark inside ends alone =
+sharp-at-complete kept e v sharp mark inside ends on_boundary =
     let s = kept.sparse in
     let name = name_in (present_points kept.base kept.meeting s.depth) in
     let whole = refined_level kept.base s.depth in
@@ -56,7 +56,7 @@ sharp-at-complete kept e v sharp mark inside ends alone =
     let listed = list_any_at (same_edge edge) (edges_of s.level.polygons) e (0, 0) inside (same_edge-refl edge) in
     let corners = edge-ends name s.numbers s.level.polygons whole.polygons part.polygons edge listed in
     let along = whole-along s.numbers whole.polygons (name v) (renamed name edge) (end-named name v edge ends) (complete-whole kept v (marked-below kept v mark) mark) in
-    let boundary = sym (same-boundary name s.numbers s.level.polygons whole.polygons part.polygons edge corners along) ∙ alone in
+    let boundary = sym (same-boundary name s.numbers s.level.polygons whole.polygons part.polygons edge corners along) ∙ on_boundary in
     let here = sharp-levels kept.base s.depth (record { over = kept.over; simple = sharp.simple; distinct = sharp.distinct; sharp = sharp.sharp }) in
     ap (λ (n : ℕ). get_or s.level.edge_sharpness n Smooth) (sym (own-number s.level.polygons e inside))
     ∙ part.edges edge listed

@@ -1,5 +1,5 @@
 -- All faces at a new point are present exactly if all vertices of the point are on selected faces.
-use Rattle.std.proofs.Common.{◌≡◌, ℕ, ◌+◌, ◌<◌, Bool, true, false, List, [], ◌∷◌, length, arith, refl, ap, sym, ◌∙◌, subst, inl, inr}
+use Rattle.std.proofs.Common.{◌≡◌, ℕ, ◌+◌, ◌<◌, true, List, [], ◌∷◌, length, arith, refl, ap, sym, ◌∙◌, subst, inl, inr}
 use Rattle.std.specs.List.{list_all}
 use Rattle.std.proofs.lemmas.Bool.{and_parts, eq-eqb}
 use Rattle.subdiv_model.specs.Lists.{places}
@@ -25,11 +25,7 @@ use Rattle.sparse_laws.specs.NextSparse.{vertex_at, vertices_of, has_all_faces}
 use Rattle.sparse_laws.proofs.SelectedLemmas.{among-all}
 use Rattle.sparse_laws.proofs.CornerLemmas.{HasChild, all-among, all-own, each-vertex, own-vertex, vertices-old, vertices-edge}
 use Rattle.sparse_laws.proofs.PresentLemmas.{Selection, present-at}
-
-bool-same : (a b : Bool) → (a ≡ true → b ≡ true) → (b ≡ true → a ≡ true) → a ≡ b
-bool-same true b to from = sym (to refl)
-bool-same false true to from = from refl
-bool-same false false to from = refl
+use Rattle.mesh_laws.proofs.WalkLemmas.{same-tests}
 
 module _ (s : Selection) where
   -- the next level of the part and that of the whole
@@ -123,7 +119,7 @@ module _ (s : Selection) where
 
   pub complete-same : (n : ℕ) → is_corner (kids) n ≡ true → has_all_faces s.part s.some n ≡ list_all (is_among (places (is_on s.whole.polygons s.others) (corners_of s.whole.polygons))) (faces_of_point (kids_there) (kid n))
   complete-same n there =
-      bool-same (has_all_faces s.part s.some n) (list_all (is_among present_faces) (faces_of_point kids_there (kid n)))
+      same-tests (has_all_faces s.part s.some n) (list_all (is_among present_faces) (faces_of_point kids_there (kid n)))
       (λ all. whole-test (kid n) (present-from n there all))
       (λ all. all-among (is_on s.part.polygons s.some) (vertices_of s.part n) (λ w h. on-from n there (whole-from-test (kid n) all) w h))
 

@@ -1,11 +1,9 @@
 -- A face all of whose corners are whole points of a part has the facts of its face in the whole.
-use Rattle.std.proofs.Common.{◌≡◌, ℕ, ◌+◌, ◌<◌, Bool, true, false, not, ◌&&◌, ◌||◌, nat_eq, List, [], ◌∷◌, length, map, get_or, arith, refl, ap, sym, ◌∙◌}
+use Rattle.std.proofs.Common.{◌≡◌, ℕ, ◌+◌, ◌<◌, Bool, true, false, not, ◌&&◌, ◌||◌, nat_eq, List, [], ◌∷◌, length, map, arith, refl, ap, sym, ◌∙◌}
 use Rattle.std.specs.List.{filter, list_any, list_all, count_by}
 use Rattle.std.proofs.lemmas.Bool.{and_parts, or_right, eq-eqb, eqb-true}
 use Rattle.std.proofs.lemmas.Bool.Decides.{nat_tests}
 use Rattle.std.proofs.lemmas.List.{length-map}
-use Rattle.std.proofs.lemmas.List.Folds.{list_any_at}
-use Rattle.std.proofs.lemmas.List.Sums.{list_all-from_AllPass}
 use Rattle.subdiv_model.specs.Polygons.{Polygon, same_edge, sides_of, has_corner, has_side, is_among, polygon_at}
 use Rattle.subdiv_model.specs.Edges.{edges_of, edges_of_point, has_end, is_boundary}
 use Rattle.subdiv_model.specs.Sharpness.{Sharpness, is_sharp}
@@ -23,6 +21,7 @@ use Rattle.part_laws.proofs.RenamedLemmas.{sides-renamed}
 use Rattle.part_laws.proofs.PartLemmas.{edge-ends, polygon-in, same-boundary, same-edges, same-faces, whole-along}
 use Rattle.part_laws.proofs.LevelLemmas.{all-listed}
 use Rattle.part_laws.proofs.JoinLemmas.{corner-in}
+use Rattle.sparse_laws.proofs.CornerLemmas.{all-among}
 
 -- tests that agree count the same
 count-mapped : {X Y : Type 0} (keep : X → Bool) (f : X → Y) (test : X → Bool) (other : Y → Bool) → ((x : X) → keep x ≡ true → other (f x) ≡ test x) → (xs : List X) → list_all keep xs ≡ true → count_by other (map f xs) ≡ count_by test xs
@@ -42,11 +41,6 @@ kept-pass test (x ∷ xs) = go (test x) refl (kept-pass test xs)
     go : (b : Bool) → test x ≡ b → list_all test (filter test xs) ≡ true → list_all test (filter test (x ∷ xs)) ≡ true
     go true e rest = rw e (rw e rest)
     go false e rest = rw e rest
-
--- what each number of a list passes, all pass
-pub all-among : (test : ℕ → Bool) (ns : List ℕ) → ((n : ℕ) → is_among ns n ≡ true → test n ≡ true) → list_all test ns ≡ true
-all-among test ns each =
-    list_all-from_AllPass test ns (λ k d h. each (get_or ns k d) (list_any_at (nat_eq (get_or ns k d)) ns k d h (eq-eqb (get_or ns k d) (get_or ns k d) refl)))
 
 -- a list contains each of its numbers
 pub all-own : (ns : List ℕ) → list_all (is_among ns) ns ≡ true

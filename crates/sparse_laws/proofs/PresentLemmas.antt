@@ -47,24 +47,9 @@ pub record Selection : Type 0 where
   pub has_all : (w : ℕ) → is_on part.polygons some w ≡ true → IsWholeAt numbers whole.polygons (name w)
 
 module _ (s : Selection) where
-  -- a vertex lies on a selected face, here and in the whole
-  abbrev pub on_here : ℕ → Bool
-  on_here w = is_on s.part.polygons s.some w
-
-  abbrev pub on_there : ℕ → Bool
-  on_there v = is_on s.whole.polygons s.others v
-
   -- the number in the whole of the child face of a corner
   abbrev pub number_there : ℕ × ℕ → ℕ
   number_there place = first_place s.whole.polygons (face_in s.numbers place.0) + place.1
-
-  -- the child faces of the whole at such vertices
-  abbrev pub present_there : List ℕ
-  present_there = places (is_on s.whole.polygons s.others) (corners_of s.whole.polygons)
-
-  -- the places of such corners
-  abbrev pub chosen_places : List (ℕ × ℕ)
-  chosen_places = next_places s.part.polygons s.some
 
   corner-same : (w f : ℕ) → is_corner s.part.polygons w ≡ true → f < length s.part.polygons → has_corner (s.name w) (polygon_at s.whole.polygons (face_in s.numbers f)) ≡ has_corner w (polygon_at s.part.polygons f)
   corner-same w f there below =

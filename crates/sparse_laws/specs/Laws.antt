@@ -54,7 +54,7 @@ pub record BoundaryEdge (kept : Kept) : Type 0 where
   pub exists : e < length (edges_of kept.sparse.level.polygons)
   pub ends : IsTrue (has_end v (get_or (edges_of kept.sparse.level.polygons) e (0, 0)))
   pub complete : get_or kept.sparse.complete v false ≡ true
-  pub alone : is_boundary kept.sparse.level.polygons (get_or (edges_of kept.sparse.level.polygons) e (0, 0)) ≡ true
+  pub on_boundary : is_boundary kept.sparse.level.polygons (get_or (edges_of kept.sparse.level.polygons) e (0, 0)) ≡ true
 
 -- whether halves overflow at a point of the uniform level that has a present child
 abbrev pub uniform_halves_overflow : Kept → Bool

@@ -1,16 +1,14 @@
 //! Laws of one sparse level: level 0, the facts of faces, and the selected faces.
 
-ghost use Rattle.std.specs.Prelude.{◌≡◌, ℕ, ◌<◌, true, false, length, map, get_or, IsTrue};
-ghost use Rattle.std.specs.List.{list_any, range_with_len};
+ghost use Rattle.std.specs.Prelude.{◌≡◌, ℕ, ◌<◌, true, false, map, get_or, IsTrue};
 ghost use Rattle.subdiv_model.specs.Polygons.{is_over};
-ghost use Rattle.subdiv_model.specs.Edges.{edges_of, has_end, is_boundary};
 ghost use Rattle.subdiv_model.specs.Sharpness.{Smooth, Infinite};
-ghost use Rattle.subdiv_model.specs.Level.{Level, edge_sharpness_of};
+ghost use Rattle.subdiv_model.specs.Level.{Level};
 ghost use Rattle.subdiv_model.specs.Child.{refined_level};
 ghost use Rattle.subdiv_model.specs.Feature.{facts_of};
-ghost use Rattle.subdiv_model.specs.Sparse.{Meeting, present_points, selected};
-ghost use Rattle.part_laws.specs.Parts.{IsWholeAt, face_in};
-ghost use Rattle.sparse_laws.specs.SparseLevels.{IsSparse, name_in, whole_base};
+ghost use Rattle.subdiv_model.specs.Sparse.{Meeting, selected};
+ghost use Rattle.part_laws.specs.Parts.{face_in};
+ghost use Rattle.sparse_laws.specs.SparseLevels.{IsSparse, whole_base};
 ghost use Rattle.sparse_laws.specs.Selected.{facts_in};
 ghost use Rattle.sparse_laws.specs.Laws.{BoundaryEdge, IsWholePoint, Kept, HasSharpBoundary, InnerFace, AgreeingTest, chosen_by};
 

@@ -1,10 +1,7 @@
 //! Laws of the next sparse level.
 
-ghost use Rattle.std.specs.Prelude.{◌≡◌, ℕ, suc, ◌<◌, ◌↔◌, true, length, IsTrue};
-ghost use Rattle.std.specs.List.{list_any};
-ghost use Rattle.subdiv_model.specs.Child.{refined_level};
-ghost use Rattle.subdiv_model.specs.Channel.{chaikin_overflows_at};
-ghost use Rattle.subdiv_model.specs.SparseFaults.{present_faces, points_with_child};
+ghost use Rattle.std.specs.Prelude.{◌≡◌, ℕ, suc, length, IsTrue};
+ghost use Rattle.subdiv_model.specs.SparseFaults.{present_faces};
 ghost use Rattle.sparse_laws.specs.SparseLevels.{IsSparse};
 ghost use Rattle.sparse_laws.specs.NextSparse.{next_places};
 ghost use Rattle.sparse_laws.specs.Selected.{OverflowsOn};
