@@ -4,7 +4,9 @@ use Rattle.std.specs.List.{flat_map}
 use Rattle.subdiv_model.specs.Base.{base_level}
 use Rattle.subdiv_model.specs.Cut.{SmoothSeams, cut_level}
 use Rattle.subdiv_model.specs.ExampleTexts.{cube_text, seamed_text}
-use Rattle.subdiv_model.specs.Fault.{Obj}
+use Rattle.subdiv_model.specs.Fault.{ChaikinOverflow, Entries, Fault, Long, Memory, Mesh, Obj, Overflow, Positions, Read, TooLarge, Usage, Write}
+use Rattle.subdiv_model.specs.Level.{Level}
+use Rattle.subdiv_model.specs.MeshFault.{SplitVertex}
 use Rattle.subdiv_model.specs.NumberText.{number_text}
 use Rattle.subdiv_model.specs.ObjFault.{UnknownKeyword, LongLine}
 use Rattle.subdiv_model.specs.Leaf.{leaf_line}
@@ -73,3 +75,27 @@ level_faces select text k =
 abbrev pub cube_leaf : ℕ → ℕ → ℕ × ℕ → List ℕ
 cube_leaf depth grid pair =
     leaf_line grid pair (map_leaf (record { depth = depth; face = 0; grid = grid; corner = 0; select = FeatureFaces }) (read_obj_mesh cube_text 0) pair)
+
+-- level 0 of the mesh of a text
+abbrev pub level_of_text : List ℕ → Level
+level_of_text text = base_level (read_obj_mesh text 0)
+
+-- what `levels` writes for the square at depth 0
+abbrev pub square_levels_text : List ℕ
+square_levels_text = codes "level 0 points 4 edges 4 faces 1 euler 1 boundary 4 holes 0 sharp 0 extraordinary 0\n"
+
+-- the sparse levels of the square to depth 1, with all faces selected
+abbrev pub square_sparse_text : List ℕ
+square_sparse_text = codes "level 0 points 4 faces 1\nv 0 0 0\nv 4 0 0\nv 4 4 0\nv 0 4 0\nf s 0 1 2 3 4\nlevel 1 points 9 faces 4\nv 1/2 1/2 0\nv 2 0 0\nv 2 2 0\nv 0 2 0\nv 7/2 1/2 0\nv 4 2 0\nv 7/2 7/2 0\nv 2 4 0\nv 1/2 7/2 0\nf l 0 1 2 3 4\nf l 1 5 6 3 2\nf l 2 7 8 3 6\nf l 3 9 4 3 8\n"
+
+-- the map of the square at depth 0, on a grid of 1
+abbrev pub square_map_text : List ℕ
+square_map_text = codes "p 0 0 level 0 face 0 corner 0 at 0 0\np 1 0 level 0 face 0 corner 0 at 1 0\np 0 1 level 0 face 0 corner 0 at 0 1\np 1 1 level 0 face 0 corner 0 at 1 1\n"
+
+-- the limit points of the square after a step, with two decimals
+abbrev pub square_limit_text : List ℕ
+square_limit_text = codes "v 0.67 0.67 0.00\nv 3.33 0.67 0.00\nv 3.33 3.33 0.00\nv 0.67 3.33 0.00\nv 2.00 2.00 0.00\nv 2.00 0.17 0.00\nv 3.83 2.00 0.00\nv 2.00 3.83 0.00\nv 0.17 2.00 0.00\nf 1 6 5 9\nf 2 7 5 6\nf 3 8 5 7\nf 4 9 5 8\n"
+
+-- faults of eight kinds, in the order of their statuses
+abbrev pub faults_by_status : List Fault
+faults_by_status = Usage 0 ∷ Read ∷ Long ∷ Mesh (SplitVertex 0) ∷ TooLarge (Entries 2) ∷ Overflow Positions 1 ChaikinOverflow ∷ Write ∷ Memory ∷ []

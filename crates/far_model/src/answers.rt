@@ -6,17 +6,15 @@
 ghost use Rattle.std.specs.Prelude.{◌≡◌, List, [], ◌∷◌, ◌++◌, map, take, pos, Some, None, codes};
 ghost use Rattle.subdiv_model.specs.Limits.{count_faults, level_count_faults};
 ghost use Rattle.far_model.specs.Answer.{answer, answer_of_made, answer_of_mesh, made_mesh};
-ghost use Rattle.subdiv_model.specs.Base.{base_level};
-ghost use Rattle.far_model.specs.Examples.{cube_leaf, curved_sheet_text, first_texture, level_faces, level_head, seamed_strip_text};
-ghost use Rattle.subdiv_model.specs.ExampleTexts.{corner_cube_refined_text, cube_text, hidden_square_refined_text, refined_square_points_text, refined_square_text, seamed_text, sharp_square_refined_text, sheet_summary_text, square_text, tagged_cube_text};
+ghost use Rattle.far_model.specs.Examples.{cube_leaf, curved_sheet_text, faults_by_status, first_texture, level_faces, level_head, level_of_text, seamed_strip_text, square_levels_text, square_limit_text, square_map_text, square_sparse_text};
+ghost use Rattle.subdiv_model.specs.ExampleTexts.{corner_cube_refined_text, cube_text, hidden_square_refined_text, refined_square_points_text, refined_square_text, seamed_text, sharp_square_refined_text, sharp_square_sparse_text, sheet_patch_start_text, sheet_summary_text, square_text, tagged_cube_text};
 ghost use Rattle.far_model.specs.Command.{AllFaces, FeatureFaces, MakeCommand, ReadCommand};
 ghost use Rattle.subdiv_model.specs.Examples.{cube};
-ghost use Rattle.subdiv_model.specs.Fault.{ChaikinOverflow, Dart, Entries, Fault, FaceSize, IsHole, LevelFaces, Limit, Long, Memory, Mesh, NoCorner, NoFace, NotRegular, Obj, Overflow, Place, Positions, Read, SemiSharp, Texture, TooLarge, TransitionOverflow, Usage, Valence, ValueOverflow, Write, fault_line, fault_status, outcome_status};
+ghost use Rattle.subdiv_model.specs.Fault.{Dart, Fault, FaceSize, IsHole, LevelFaces, Limit, Long, Mesh, NoCorner, NoFace, NotRegular, Obj, Overflow, Place, Positions, Read, SemiSharp, Texture, TooLarge, TransitionOverflow, Usage, Valence, ValueOverflow, fault_line, fault_status, outcome_status};
 ghost use Rattle.subdiv_model.specs.Generator.{draws_from, generated_mesh, sheet_faces};
-ghost use Rattle.subdiv_model.specs.MeshFault.{NonManifoldEdge, RepeatedVertex, SplitVertex};
+ghost use Rattle.subdiv_model.specs.MeshFault.{NonManifoldEdge, RepeatedVertex};
 ghost use Rattle.subdiv_model.specs.ObjFault.{BadTag, UnknownKeyword};
 ghost use Rattle.subdiv_model.specs.ObjMesh.{ObjMesh};
-ghost use Rattle.subdiv_model.specs.ReadObj.{read_obj_mesh};
 ghost use Rattle.subdiv_model.specs.Sharpness.{Semi};
 
 /// `refine` with its options, by the table and level by level, on small meshes.
@@ -34,8 +32,8 @@ pub fn levels_with_their_tags()
     ensures hidden { (answer (codes "refine" ∷ codes "depth=1" ∷ codes "tags=yes" ∷ []) (square_text ++ codes "t interpolateboundary 1/0/0 0\n")).text ≡ hidden_square_refined_text }
     ensures untagged { (answer (codes "refine" ∷ codes "depth=1" ∷ []) (square_text ++ codes "t interpolateboundary 1/0/0 0\n")).text ≡ refined_square_points_text }
     ensures written { (answer (codes "refine" ∷ codes "depth=1" ∷ codes "tags=yes" ∷ []) (cube_text ++ codes "t corner 1/1/0 3 1.5\n")).text ≡ corner_cube_refined_text }
-    ensures read_again { base_level (read_obj_mesh tagged_cube_text 0)
-        ≡ base_level (read_obj_mesh (answer (codes "refine" ∷ codes "depth=0" ∷ codes "tags=yes" ∷ codes "decimals=3" ∷ []) tagged_cube_text).text 0) }
+    ensures read_again { level_of_text tagged_cube_text
+        ≡ level_of_text (answer (codes "refine" ∷ codes "depth=0" ∷ codes "tags=yes" ∷ codes "decimals=3" ∷ []) tagged_cube_text).text }
 {}
 
 /// Channel points and their texture values in each mode.
@@ -49,7 +47,7 @@ pub fn refined_texture_of_two_quads()
 
 /// The other commands on small meshes.
 pub fn levels_tables_and_sheets()
-    ensures levels { answer (codes "levels" ∷ codes "depth=0" ∷ []) square_text ≡ record { text = codes "level 0 points 4 edges 4 faces 1 euler 1 boundary 4 holes 0 sharp 0 extraordinary 0\n"; refusal = None } }
+    ensures levels { answer (codes "levels" ∷ codes "depth=0" ∷ []) square_text ≡ record { text = square_levels_text; refusal = None } }
     ensures stencils { (answer (codes "stencils" ∷ codes "depth=0" ∷ []) (codes "v 1 2 3\n")).text ≡ codes "table controls 1 rows 1 entries 1\ns 1 0 1\n" }
     ensures sheet { answer (codes "gen" ∷ codes "seed=0" ∷ codes "size=1" ∷ codes "depth=1" ∷ []) (codes "x") ≡ record { text = sheet_summary_text; refusal = None } }
     ensures moved { answer (codes "frames" ∷ codes "depth=0" ∷ []) (square_text ++ codes "frames\nmove 0 1 1 1\ngo\n") ≡ record { text = codes "frame 1\np 0 1 1 1\n"; refusal = None } }
@@ -58,9 +56,9 @@ pub fn levels_tables_and_sheets()
 /// Sparse levels of the square. With sharp corners no face is a feature; with all faces selected each level is whole.
 pub fn sparse_levels()
     ensures none { answer (codes "sparse" ∷ codes "depth=1" ∷ []) (square_text ++ codes "t interpolateboundary 1/0/0 1\n")
-        ≡ record { text = codes "level 0 points 4 faces 1\nv 0 0 0\nv 4 0 0\nv 4 4 0\nv 0 4 0\nf l 0 1 2 3 4\nlevel 1 points 0 faces 0\n"; refusal = None } }
+        ≡ record { text = sharp_square_sparse_text; refusal = None } }
     ensures all { (answer (codes "sparse" ∷ codes "depth=1" ∷ codes "select=all" ∷ codes "uv=none" ∷ []) square_text).text
-        ≡ codes "level 0 points 4 faces 1\nv 0 0 0\nv 4 0 0\nv 4 4 0\nv 0 4 0\nf s 0 1 2 3 4\nlevel 1 points 9 faces 4\nv 1/2 1/2 0\nv 2 0 0\nv 2 2 0\nv 0 2 0\nv 7/2 1/2 0\nv 4 2 0\nv 7/2 7/2 0\nv 2 4 0\nv 1/2 7/2 0\nf l 0 1 2 3 4\nf l 1 5 6 3 2\nf l 2 7 8 3 6\nf l 3 9 4 3 8\n" }
+        ≡ square_sparse_text }
     ensures untextured { answer (codes "sparse" ∷ codes "depth=0" ∷ codes "uv=smooth" ∷ []) square_text ≡ answer (codes "sparse" ∷ codes "depth=0" ∷ []) square_text }
     ensures words { (answer (codes "sparse" ∷ codes "depth=1" ∷ codes "uv=no" ∷ []) square_text).refusal ≡ Some (Usage 2) }
 {}
@@ -72,7 +70,7 @@ pub fn texture_of_sparse_levels()
     ensures faces { level_faces AllFaces seamed_text 0 ≡ codes "f s 0 1/1 2/2 3/3 4/4\nf s 1 2/5 5/6 6/7 3/8\n" }
     ensures strip { level_head FeatureFaces seamed_strip_text 0 ++ level_head FeatureFaces seamed_strip_text 1
         ≡ codes "level 0 points 8 faces 3 texture 10\nlevel 1 points 18 faces 10 texture 15\n" }
-    ensures alone { take 28 (level_faces FeatureFaces seamed_strip_text 1) ≡ codes "f r 1 1 2 3 4\nf r 2 5 6 3 2\n" }
+    ensures without_texture { take 28 (level_faces FeatureFaces seamed_strip_text 1) ≡ codes "f r 1 1 2 3 4\nf r 2 5 6 3 2\n" }
     ensures text { take 35 (answer (codes "sparse" ∷ codes "depth=0" ∷ codes "uv=smooth" ∷ []) seamed_text).text ≡ codes "level 0 points 6 faces 2 texture 8\n" }
 {}
 
@@ -85,7 +83,7 @@ pub fn leaves_of_a_cube()
     ensures end { cube_leaf 1 2 (0, 2) ≡ codes "p 0 2 level 1 face 3 corner 0 at 0 0\n" }
     ensures deeper { cube_leaf 2 4 (1, 1) ≡ codes "p 1 1 level 2 face 0 corner 0 at 1 1\n" }
     ensures whole { (answer (codes "map" ∷ codes "depth=0" ∷ codes "face=0" ∷ codes "grid=1" ∷ []) square_text).text
-        ≡ codes "p 0 0 level 0 face 0 corner 0 at 0 0\np 1 0 level 0 face 0 corner 0 at 1 0\np 0 1 level 0 face 0 corner 0 at 0 1\np 1 1 level 0 face 0 corner 0 at 1 1\n" }
+        ≡ square_map_text }
     ensures past { (answer (codes "map" ∷ codes "depth=2" ∷ codes "face=6" ∷ codes "grid=4" ∷ []) cube_text).refusal ≡ Some (Place (NoFace 6)) }
     ensures corner { (answer (codes "map" ∷ codes "depth=2" ∷ codes "face=0" ∷ codes "grid=4" ∷ codes "corner=1" ∷ []) cube_text).refusal ≡ Some (Place (NoCorner 4)) }
     ensures hole { (answer (codes "map" ∷ codes "depth=2" ∷ codes "face=0" ∷ codes "grid=4" ∷ []) (cube_text ++ codes "t hole 1/0/0 0\n")).refusal ≡ Some (Place (IsHole 0)) }
@@ -94,7 +92,7 @@ pub fn leaves_of_a_cube()
 /// Limit points of the square, and points without a limit point.
 pub fn limit_points_of_meshes()
     ensures square { answer (codes "limit" ∷ codes "depth=1" ∷ codes "decimals=2" ∷ []) square_text
-        ≡ record { text = codes "v 0.67 0.67 0.00\nv 3.33 0.67 0.00\nv 3.33 3.33 0.00\nv 0.67 3.33 0.00\nv 2.00 2.00 0.00\nv 2.00 0.17 0.00\nv 3.83 2.00 0.00\nv 2.00 3.83 0.00\nv 0.17 2.00 0.00\nf 1 6 5 9\nf 2 7 5 6\nf 3 8 5 7\nf 4 9 5 8\n"; refusal = None } }
+        ≡ record { text = square_limit_text; refusal = None } }
     ensures dart { answer (codes "limit" ∷ codes "depth=1" ∷ []) (cube_text ++ codes "t crease 2/1/0 0 1 10\n") ≡ record { text = []; refusal = Some (Limit (Dart 0)) } }
     ensures semi { (answer (codes "limit" ∷ codes "depth=1" ∷ []) (cube_text ++ codes "t crease 2/1/0 0 1 5\n")).refusal ≡ Some (Limit (SemiSharp 0)) }
     ensures depth { (answer (codes "limit" ∷ codes "depth=0" ∷ []) square_text).refusal ≡ Some (Usage 1) }
@@ -105,7 +103,7 @@ pub fn limit_points_of_meshes()
 /// The patch of the middle quad of a sheet, and quads without a patch.
 pub fn patches_of_a_sheet()
     ensures start { take 83 (answer (codes "patch" ∷ codes "depth=0" ∷ codes "face=4" ∷ codes "grid=2" ∷ []) curved_sheet_text).text
-        ≡ codes "patch face 4 grid 2\ns 0 0 1 1 4/3\ns 1 0 3/2 1 31/12\ns 2 0 2 1 13/3\ns 0 1 1 3/2 4/3\n" }
+        ≡ sheet_patch_start_text }
     ensures whole { (answer (codes "patch" ∷ codes "grid=2" ∷ codes "face=4" ∷ codes "depth=0" ∷ []) curved_sheet_text).refusal ≡ None }
     ensures rim { answer (codes "patch" ∷ codes "depth=0" ∷ codes "face=0" ∷ codes "grid=2" ∷ []) curved_sheet_text ≡ record { text = []; refusal = Some (Place (NotRegular 0)) } }
     ensures past { (answer (codes "patch" ∷ codes "depth=0" ∷ codes "face=9" ∷ codes "grid=1" ∷ []) curved_sheet_text).refusal ≡ Some (Place (NoFace 9)) }
@@ -121,7 +119,7 @@ pub fn refusals_in_their_order()
     ensures value { (answer (codes "refine" ∷ codes "depth=1" ∷ []) (square_text ++ codes "v 1e36 0 0\nv 0 0 9e36\n")).refusal ≡ None }
     ensures overflow { (answer (codes "refine" ∷ codes "depth=2" ∷ []) (square_text ++ codes "v 0 0 9e36\n")).refusal ≡ Some (Overflow Positions 2 ValueOverflow) }
     ensures by_level { (answer (codes "refine" ∷ codes "by=level" ∷ codes "depth=2" ∷ []) (square_text ++ codes "v 0 0 9e36\n")).refusal ≡ Some (Overflow Positions 2 ValueOverflow) }
-    ensures level_alone { (answer (codes "levels" ∷ codes "depth=2" ∷ []) (square_text ++ codes "v 0 0 9e36\n")).refusal ≡ None }
+    ensures levels_only { (answer (codes "levels" ∷ codes "depth=2" ∷ []) (square_text ++ codes "v 0 0 9e36\n")).refusal ≡ None }
 {}
 
 /// Counts of a mesh and of its levels past their limits.
@@ -149,8 +147,7 @@ pub fn lines_of_faults()
     ensures size { fault_line (TooLarge (FaceSize 0 65537)) ≡ codes "far: face 0 has 65537 corners\n" }
     ensures valence { fault_line (TooLarge (Valence 3 65537)) ≡ codes "far: vertex 3 has 65537 edges\n" }
     ensures overflow { fault_line (Overflow Texture 2 TransitionOverflow) ≡ codes "far: texture level 2: transition overflow\n" }
-    ensures statuses { map fault_status (Usage 0 ∷ Read ∷ Long ∷ Mesh (SplitVertex 0) ∷ TooLarge (Entries 2) ∷ Overflow Positions 1 ChaikinOverflow ∷ Write ∷ Memory ∷ [])
-        ≡ 2 ∷ 3 ∷ 4 ∷ 6 ∷ 7 ∷ 8 ∷ 10 ∷ 11 ∷ [] }
+    ensures statuses { map fault_status faults_by_status ≡ 2 ∷ 3 ∷ 4 ∷ 6 ∷ 7 ∷ 8 ∷ 10 ∷ 11 ∷ [] }
     ensures good { outcome_status None ≡ 0 }
 {}
 

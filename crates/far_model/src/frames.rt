@@ -2,8 +2,8 @@
 
 ghost use Rattle.std.specs.Prelude.{◌≡◌, ◌++◌, [], ◌∷◌, Some, None, codes};
 ghost use Rattle.far_model.specs.ExampleFrames.{framed, square_lines, moves_of_the_square, answers_of_the_square, last_move, refused_frame_line};
-ghost use Rattle.subdiv_model.specs.Fault.{Obj, Overflow, Positions, ValueOverflow};
-ghost use Rattle.subdiv_model.specs.ObjFault.{BadNumeral, NumberRange, UnknownKeyword, ShortLine, MoveIndex, TooFine, LongLine};
+ghost use Rattle.subdiv_model.specs.Fault.{Obj};
+ghost use Rattle.subdiv_model.specs.ObjFault.{BadNumeral, NumberRange, UnknownKeyword, ShortLine, MoveIndex, TooFine};
 
 /// A square with a moved point: `go` writes the points that depend on it, and the next `go` writes none.
 pub fn moves_of_a_square()
