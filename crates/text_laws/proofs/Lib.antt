@@ -12,7 +12,6 @@ pub mod FaceLemmas
 pub mod PointLemmas
 pub mod ReadMeshLemmas
 pub mod TexturedLemmas
-pub mod CoordinateLemmas
 pub mod GoodLineLemmas
 pub mod NoFaultLemmas
 pub mod TexturedFaultLemmas

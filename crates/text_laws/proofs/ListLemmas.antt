@@ -5,14 +5,10 @@ use Rattle.std.proofs.lemmas.Bool.{and_parts, and_from, cond-true, cond-false}
 use Rattle.std.proofs.lemmas.List.Elements.{filter-append}
 use Rattle.std.proofs.lemmas.List.Folds.{list_all-append, list_all-map}
 use Rattle.subdiv_model.specs.Lists.{places_from, places}
-
--- what holds of each, or of each that is made, holds of all
-pub all-of : {X : Type 0} (test : X → Bool) → ((x : X) → test x ≡ true) → (xs : List X) → list_all test xs ≡ true
-all-of test each [] = refl
-all-of test each (x ∷ xs) = and_from _ _ (each x) (all-of test each xs)
+use Rattle.mesh_laws.proofs.FaultLemmas.{all-always}
 
 pub all-made : {X Y : Type 0} (test : Y → Bool) (make : X → Y) → ((x : X) → test (make x) ≡ true) → (xs : List X) → list_all test (map make xs) ≡ true
-all-made test make each xs = list_all-map test make xs ∙ all-of (λ x. test (make x)) each xs
+all-made test make each xs = list_all-map test make xs ∙ all-always (λ x. test (make x)) each xs
 
 pub all-both : {X : Type 0} (test : X → Bool) (xs ys : List X) → list_all test xs ≡ true → list_all test ys ≡ true → list_all test (xs ++ ys) ≡ true
 all-both test xs ys first second = list_all-append test xs ys ∙ and_from _ _ first second

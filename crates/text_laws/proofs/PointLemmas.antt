@@ -14,17 +14,12 @@ use Rattle.subdiv_model.specs.ReadObj.{is_texture_line, kept_coordinates, denomi
 use Rattle.subdiv_model.specs.Text.{point_words}
 use Rattle.number_laws.proofs.MultipleLemmas.{fold-lcm-divided, fold-lcm-positive}
 use Rattle.obj_laws.proofs.NumeralValueLemmas.{tens}
-use Rattle.obj_laws.proofs.NumeralTermsLemmas.{terms-positive}
 use Rattle.text_laws.specs.Laws.{value_over}
 use Rattle.text_laws.specs.ReadMesh.{HasDenominators, HasTextureDenominators, IsPointOver, IsTextureOver}
 use Rattle.text_laws.proofs.ListLemmas.{map-twice}
 use Rattle.text_laws.proofs.ValueLemmas.{value-back, value-over}
 use Rattle.text_laws.proofs.KeptLemmas.{Words, vertex_words, texture_words}
-
--- a common denominator of words is above 0
-denominators-positive : (words : List (List ℕ)) → AllByRecursion (λ n. 0 < n) (map denominator_of words)
-denominators-positive [] = tt
-denominators-positive (word ∷ words) = (terms-positive word, denominators-positive words)
+use Rattle.obj_laws.proofs.ObjChannelLemmas.{denominators-positive}
 
 pub common-positive : (start : ℕ) (words : List (List ℕ)) → 0 < start → 0 < fold lcm_of start (map denominator_of words)
 common-positive start words above = fold-lcm-positive start (map denominator_of words) above (denominators-positive words)

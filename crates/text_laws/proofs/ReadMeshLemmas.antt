@@ -21,12 +21,13 @@ use Rattle.subdiv_model.specs.Text.{shown}
 use Rattle.text_laws.specs.Laws.{words_of}
 use Rattle.text_laws.specs.MeshLines.{polygon_line, tag_lines, lines_of_faces, written_edges, written_vertices, written_holes}
 use Rattle.text_laws.specs.ReadMesh.{IsPointOver, HasDenominators, WrittenMesh, written_text, mesh_read, IsReadBack}
-use Rattle.text_laws.proofs.ListLemmas.{all-of, filter-all, as-many}
+use Rattle.text_laws.proofs.ListLemmas.{filter-all, as-many}
 use Rattle.text_laws.proofs.KeptLemmas.{Words, vertex_words, all_words, split-words, vertices-kept, faces-kept, modes-kept, methods-kept, creases-kept, corners-kept, holes-kept}
 use Rattle.text_laws.proofs.TagLemmas.{creases-back, corners-back, holes-back, method-back}
 use Rattle.text_laws.proofs.FaceLemmas.{faces-back, number-vertex}
 use Rattle.text_laws.proofs.PointLemmas.{points-back, points-common-positive}
 use Rattle.text_laws.proofs.MeshTextLemmas.{mesh-back}
+use Rattle.mesh_laws.proofs.FaultLemmas.{all-always}
 
 -- what a well-formed level is
 pub record IsWell (level : Level) : Type 0 where
@@ -47,7 +48,7 @@ well-parts level h =
 -- where holes are shown all faces are
 pub shown-all : {X : Type 0} (level : Level) (items : List X) → length level.holes ≡ length items → shown true level items ≡ items
 shown-all level items same =
-    ap (map (λ item. item.0)) (filter-all (λ item. true || not item.1) (zip items level.holes) (all-of (λ item. true || not item.1) (λ item. refl) (zip items level.holes)))
+    ap (map (λ item. item.0)) (filter-all (λ item. true || not item.1) (zip items level.holes) (all-always (λ item. true || not item.1) (λ item. refl) (zip items level.holes)))
     ∙ firsts-zip items level.holes same
 
 -- lines of faces whose corners are words, with the tags of a level
