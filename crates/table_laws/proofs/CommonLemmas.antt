@@ -1,7 +1,7 @@
 -- The common denominator of a text without fault is at most 10^37, and above 0.
 use Rattle.std.proofs.Common.{◌≡◌, ℕ, zero, suc, ◌+◌, ◌^◌, ◌<◌, ◌≤◌, Bool, true, false, ◌&&◌, nat_lt, List, [], ◌∷◌, ◌++◌, length, map, take, get_or, Option, Some, None, is_some, arith, refl, ap, sym, ◌∙◌, append-nil, ltb-false, lit≤, true≢false, take_all, if◌then◌else◌}
 use Rattle.std.specs.Option.{option_or}
-use Rattle.std.specs.List.{AllByRecursion, filter, flat_map}
+use Rattle.std.specs.List.{filter, flat_map}
 use Rattle.std.proofs.lemmas.Bool.{cond-false}
 use Rattle.std.proofs.lemmas.List.{take_more}
 use Rattle.std.proofs.lemmas.List.Elements.{filter-append}
@@ -10,12 +10,12 @@ use Rattle.subdiv_model.specs.ObjLine.{is_vertex_line}
 use Rattle.subdiv_model.specs.ReadObj.{kept_coordinates, common_over, denominator_of, passes_bound, wide_fault, long_fault, first_fault, late_fault, lesser_fault, first_bad_line, first_late_fault, lines_fault, position_common}
 use Rattle.number_laws.proofs.MultipleLemmas.{fold-lcm-positive}
 use Rattle.obj_laws.proofs.FirstFaultLemmas.{each-good}
-use Rattle.obj_laws.proofs.NumeralTermsLemmas.{terms-positive}
+use Rattle.obj_laws.proofs.ObjChannelLemmas.{denominators-positive}
 
 abbrev Words : Type 0
 Words = List (List ℕ)
 
-no-some : {X : Type 0} {x : X} → Some x ≡ None → ⊥
+pub no-some : {X : Type 0} {x : X} → Some x ≡ None → ⊥
 no-some e = true≢false (ap is_some e)
 
 module _ (kind : Words → Bool) (start : ℕ) where
@@ -79,10 +79,6 @@ pub common-short : (lines : List Words) → lines_fault lines 0 ≡ None → pos
 common-short lines none =
     let late = late-none (first_bad_line lines) (first_late_fault 0 lines) none in
     ltb-false (10 ^ 37) (position_common 0 lines) (all-within is_vertex_line (10 ^ 0) lines refl (lesser-none (late_fault is_vertex_line (10 ^ 0) lines) _ late))
-
-denominators-positive : (words : List (List ℕ)) → AllByRecursion (λ n. 0 < n) (map denominator_of words)
-denominators-positive [] = tt
-denominators-positive (word ∷ words) = (terms-positive word, denominators-positive words)
 
 pub common-positive : (lines : List Words) → 0 < position_common 0 lines
 common-positive lines =

@@ -1,10 +1,11 @@
 -- The first row at which tables differ.
-use Rattle.std.proofs.Common.{◌≡◌, ◌≢◌, ◌↔◌, ℕ, suc, ◌+◌, Bool, true, false, nat_eq, List, [], ◌∷◌, length, map, take, drop, get_or, slice_get, bytes_eq, arith, refl, ap, sym, subst, ◌∙◌, eq-eqb, ne_eqb, eqb-true, true≢false, Some, None, is_some, if◌then◌else◌}
+use Rattle.std.proofs.Common.{◌≡◌, ◌≢◌, ◌↔◌, ℕ, suc, ◌+◌, Bool, true, false, nat_eq, List, [], ◌∷◌, length, map, take, drop, get_or, slice_get, bytes_eq, arith, refl, ap, sym, subst, ◌∙◌, eq-eqb, ne_eqb, eqb-true, true≢false, Some, None, if◌then◌else◌}
 use Rattle.std.specs.Prelude.{unwrap_or}
 use Rattle.std.specs.Cmp.Lexicographic.{bytes_decides}
 use Rattle.std.proofs.lemmas.Bool.{and_parts, and_from, cond-true, cond-false}
 use Rattle.subdiv_model.specs.Table.{Share, Row, Table}
 use Rattle.far_model.specs.Stored.{are_same_rows, row_difference, first_difference}
+use Rattle.table_laws.proofs.CommonLemmas.{no-some}
 
 -- control points with numerators are the same where both are
 shares-same : (xs ys : List Share) → map (λ share. share.0) xs ≡ map (λ share. share.0) ys → map (λ share. share.1) xs ≡ map (λ share. share.1) ys → xs ≡ ys
@@ -30,9 +31,6 @@ row-same : (x : Row) → are_same_rows x x ≡ true
 row-same x =
     and_from _ _ (and_from _ _ (eq-eqb x.den x.den refl) ((bytes_decides (map (λ share. share.0) x.shares) _).1 refl))
     ((bytes_decides (map (λ share. share.1) x.shares) _).1 refl)
-
-no-some : {X : Type 0} {x : X} → Some x ≡ None → ⊥
-no-some e = true≢false (ap is_some e)
 
 -- rows without difference are the same, and the same rows have none
 none-same : (at : ℕ) (xs ys : List Row) → row_difference at xs ys ≡ None → xs ≡ ys

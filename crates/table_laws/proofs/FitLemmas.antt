@@ -1,5 +1,5 @@
 -- The table of a composed mesh can be evaluated over the points of the mesh.
-use Rattle.std.proofs.Common.{◌≡◌, ℕ, zero, suc, ◌+◌, ◌*◌, ◌^◌, ◌<◌, ◌≤◌, ℤ, unsigned_abs, Bool, true, false, not, max, List, [], ◌∷◌, ◌++◌, length, map, get_or, Option, Some, None, is_some, arith, refl, ap, sym, subst, ◌∙◌, ltb-false, le-ltb, eq-eqb, lit≤, le_trans, le_of_lt, one-mul, true≢false}
+use Rattle.std.proofs.Common.{◌≡◌, ℕ, zero, suc, ◌+◌, ◌*◌, ◌^◌, ◌<◌, ◌≤◌, ℤ, unsigned_abs, Bool, true, false, not, max, List, [], ◌∷◌, ◌++◌, length, map, get_or, Option, Some, None, arith, refl, ap, sym, subst, ◌∙◌, ltb-false, le-ltb, eq-eqb, lit≤, le_trans, le_of_lt, one-mul}
 use Rattle.std.specs.List.{All, AllByRecursion, fold, flat_map, range_with_len, enumerate_from}
 use Rattle.std.proofs.Math.Nat.{max-le}
 use Rattle.std.proofs.lemmas.Bool.{cond-false}
@@ -26,9 +26,7 @@ use Rattle.far_model.specs.Command.{Stencils}
 use Rattle.far_model.specs.Refusal.{answer_unless}
 use Rattle.far_model.specs.Stored.{point_numbers, evaluation_fault}
 use Rattle.stencil_laws.proofs.SupportLemmas.{length-child_masks, length-supports}
-
-no-some : {X : Type 0} {x : X} → Some x ≡ None → ⊥
-no-some e = true≢false (ap is_some e)
+use Rattle.table_laws.proofs.CommonLemmas.{no-some}
 
 -- Lists without an item.
 
@@ -66,7 +64,7 @@ pub record IsComposed (depth : ℕ) (fault : Option ObjFault) (mesh : ObjMesh) :
   pub levels : level_count_faults mesh.faces depth ≡ []
   pub channel : channel_faults Tables (positions_of mesh) Positions depth ≡ []
 
-unrefused : (fault : Option Fault) (text : List ℕ) → (answer_unless fault text).refusal ≡ None → fault ≡ None
+pub unrefused : (fault : Option Fault) (text : List ℕ) → (answer_unless fault text).refusal ≡ None → fault ≡ None
 unrefused None text none = refl
 unrefused (Some fault) text none = none
 

@@ -76,7 +76,7 @@ digit-text (suc d) some low =
     ∙ ap (λ digits. digits ++ ((suc d % 10 + 48) ∷ [])) (no-digits d)
     ∙ ap (λ m. (m + 48) ∷ []) same
 
-no-length : (bytes : List ℕ) → length bytes ≡ 0 → bytes ≡ []
+pub no-length : (bytes : List ℕ) → length bytes ≡ 0 → bytes ≡ []
 no-length [] e = refl
 no-length (b ∷ bytes) e = absurd (omega arith)
 
@@ -93,8 +93,8 @@ word-text (b ∷ rest) is =
         → number_text (number_of_digits (b ∷ rest)) ≡ b ∷ rest
     here true e low high digits only =
         let zero_byte : b ≡ 48 = eqb-true b 48 e in
-        let alone : nat_eq (length rest) 0 ≡ true = ap (λ t. not t || nat_eq (length rest) 0) (sym e) ∙ only in
-        let none : rest ≡ [] = no-length rest (eqb-true (length rest) 0 alone) in
+        let no_rest : nat_eq (length rest) 0 ≡ true = ap (λ t. not t || nat_eq (length rest) 0) (sym e) ∙ only in
+        let none : rest ≡ [] = no-length rest (eqb-true (length rest) 0 no_rest) in
         ap (λ c. number_text (number_of_digits (c ∷ rest))) zero_byte
         ∙ ap (λ more. number_text (number_of_digits (48 ∷ more))) none
         ∙ ap (λ c. c ∷ []) (sym zero_byte)

@@ -1,5 +1,5 @@
 -- The mesh of lines without fault is a manifold over its points, and its tags are well formed.
-use Rattle.std.proofs.Common.{◌≡◌, ℕ, true, List, map, length, sym, subst, ◌∙◌, None}
+use Rattle.std.proofs.Common.{◌≡◌, ℕ, true, List, length, sym, subst, ◌∙◌, None}
 use Rattle.std.specs.List.{count_by, filter}
 use Rattle.std.proofs.lemmas.List.{length-map}
 use Rattle.std.proofs.lemmas.List.Sums.{length-filter}

@@ -1,5 +1,5 @@
 -- A stored table that is not refused is the one that it must be.
-use Rattle.std.proofs.Common.{◌≡◌, ℕ, Bool, true, false, nat_eq, List, [], ◌∷◌, length, arith, refl, ap, sym, ◌∙◌, append-nil, eqb-true, true≢false, Some, None, Option, option_map, is_some, Result, Ok, Err, if◌then◌else◌}
+use Rattle.std.proofs.Common.{◌≡◌, ℕ, Bool, true, false, nat_eq, List, [], length, refl, ap, sym, ◌∙◌, append-nil, eqb-true, Some, None, Option, option_map, Result, Ok, Err, if◌then◌else◌}
 use Rattle.std.specs.Option.{option_or}
 use Rattle.subdiv_model.specs.Fault.{Fault, Differs}
 use Rattle.subdiv_model.specs.ReadTable.{Reading, read_table}
@@ -13,22 +13,13 @@ use Rattle.table_laws.specs.Verified.{agreement}
 use Rattle.table_laws.proofs.ReadLemmas.{table-read}
 use Rattle.table_laws.proofs.BackLemmas.{table-written}
 use Rattle.table_laws.proofs.DifferenceLemmas.{difference-none}
-
-no-some : {X : Type 0} {x : X} → Some x ≡ None → ⊥
-no-some e = true≢false (ap is_some e)
-
--- an answer that refuses nothing has no fault
-no-fault : (fault : Option Fault) (text : List ℕ) → (answer_unless fault text).refusal ≡ None → fault ≡ None
-no-fault None text none = refl
-no-fault (Some fault) text none = none
+use Rattle.table_laws.proofs.CommonLemmas.{no-some}
+use Rattle.table_laws.proofs.NumberWordLemmas.{no-length}
+use Rattle.table_laws.proofs.FitLemmas.{unrefused}
 
 both-none : (first second : Option Fault) → option_or first second ≡ None → (first ≡ None) × (second ≡ None)
 both-none None second none = (refl, none)
 both-none (Some fault) second none = absurd (no-some none)
-
-no-bytes : (bytes : List ℕ) → length bytes ≡ 0 → bytes ≡ []
-no-bytes [] e = refl
-no-bytes (b ∷ bytes) e = absurd (omega arith)
 
 no-difference : (row : Option ℕ) → option_map Differs row ≡ None → row ≡ None
 no-difference None none = refl
@@ -44,7 +35,7 @@ own-reading lines own (Ok reading) none = here _ (nat_eq (length reading.rest) 0
     here fault true e none =
         let same = (difference-none reading.table own).0 (no-difference (first_difference reading.table own) none) in
         ap (λ (table : Table). Ok (record { table = table; rest = reading.rest })) same
-        ∙ ap (λ (rest : List ℕ). Ok (record { table = own; rest = rest })) (no-bytes reading.rest (eqb-true (length reading.rest) 0 e))
+        ∙ ap (λ (rest : List ℕ). Ok (record { table = own; rest = rest })) (no-length reading.rest (eqb-true (length reading.rest) 0 e))
     here fault false e none = absurd (no-some none)
 
 -- what holds of a stored table that is not refused
@@ -57,7 +48,7 @@ pub agreed : (refusal : Option Fault) (own : Table) (bytes : List ℕ) → (answ
 agreed refusal own bytes none =
     let lines = length (mesh_part bytes) in
     let part = table_part bytes in
-    let both = both-none refusal (stored_fault lines own (read_table part)) (no-fault (option_or refusal (stored_fault lines own (read_table part))) (agreement own) none) in
+    let both = both-none refusal (stored_fault lines own (read_table part)) (unrefused (option_or refusal (stored_fault lines own (read_table part))) (agreement own) none) in
     let is = table-written part (record { table = own; rest = [] }) (own-reading lines own (read_table part) both.1) in
     record { composed = both.0; stored = is.stored; text = is.text ∙ append-nil (text_of_table own) }
 
