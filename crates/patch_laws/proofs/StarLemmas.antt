@@ -34,7 +34,7 @@ use Rattle.grid_laws.proofs.QuadLemmas.{quad-corner, quad-face, quad-third}
 use Rattle.grid_laws.proofs.StarLemmas.{places-distinct, HasStar, side-owner, out-side, same-quad, star-all}
 use Rattle.grid_laws.proofs.GridLemmas.{IsRegular, regular-parts, level-simple, level-distinct, quad-fan, regular-star}
 use Rattle.grid_laws.proofs.RegularLemmas.{all-from-among, regular-vertex, spoke}
-use Rattle.patch_laws.proofs.PartnerLemmas.{all-among, each-once, partner-sums}
+use Rattle.patch_laws.proofs.PartnerLemmas.{all-among, partner-sums}
 use Rattle.patch_laws.proofs.QuadEdgeLemmas.{sum-of-four}
 
 -- Where nothing is sharp.
@@ -128,12 +128,6 @@ module _ (level : Level) (well : IsManifoldWithSharpBoundary level) where
           where
             turn : (g f : ℕ) → nat_eq g f ≡ nat_eq f g
             turn g f = grind (arith, nat_tests)
-
-    -- each face at the point is one of the four, which are apart
-    once-four : list_all (λ f. is_once (λ g. nat_eq g f) star_faces) (faces_at level v) ≡ true
-    once-four =
-        each-once (λ f g. nat_eq g f) star_faces (faces_at level v) regular.four some-four
-        (at-four (λ g. is_once (nat_eq g) (faces_at level v)) once-listed)
 
     -- the sum over the faces at the point is that over the four
     pub sum-faces : (g : ℕ → ℤ) → sum_ℤ g (faces_at level v) ≡ (g star.first.face +ℤ g star.second.face) +ℤ (g star.third.face +ℤ g star.fourth.face)
