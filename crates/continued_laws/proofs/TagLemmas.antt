@@ -76,15 +76,15 @@ module _ {X : Type 0} (names keep : X → Bool) (value : X → Sharpness) (s : S
 -- The items of a list, read by number.
 
 -- where one thing at most passes, nothing before it does
-alone : {X : Type 0} (test : X → Bool) (xs : List X) (k i : ℕ) (d : X) → count_by test xs ≤ 1 → k < i → i < length xs
+only-one : {X : Type 0} (test : X → Bool) (xs : List X) (k i : ℕ) (d : X) → count_by test xs ≤ 1 → k < i → i < length xs
     → test (get_or xs i d) ≡ true → test (get_or xs k d) ≡ false
-alone test [] k i d few before inside at = absurd (omega arith)
-alone test (x ∷ xs) k zero d few before inside at = absurd (omega arith)
-alone test (x ∷ xs) zero (suc i) d few before inside at =
+only-one test [] k i d few before inside at = absurd (omega arith)
+only-one test (x ∷ xs) k zero d few before inside at = absurd (omega arith)
+only-one test (x ∷ xs) zero (suc i) d few before inside at =
     let some = count-some test xs (list_any_at test xs i d (omega arith) at) in
     false_from_ne_true (test x) (λ yes. absurd (omega (arith, few, some, count-cons test x xs, one-yes (test x) yes)))
-alone test (x ∷ xs) (suc k) (suc i) d few before inside at =
-    alone test xs k i d (omega (arith, few, count-cons test x xs)) (omega arith) (omega arith) at
+only-one test (x ∷ xs) (suc k) (suc i) d few before inside at =
+    only-one test xs k i d (omega (arith, few, count-cons test x xs)) (omega arith) (omega arith) at
 
 -- the edge at a place has it as its number
 edge-number : (sides : List (ℕ × ℕ)) (i : ℕ) (d : ℕ × ℕ) → i < length (first_named sides)
@@ -93,7 +93,7 @@ edge-number sides i d inside =
     let edges = first_named sides in
     let edge = get_or edges i d in
     position_or_len_is (same_edge edge) edges i d (omega arith)
-    (λ k before. alone (same_edge edge) edges k i d (first_named-once edge sides) before inside (same_edge-refl edge))
+    (λ k before. only-one (same_edge edge) edges k i d (first_named-once edge sides) before inside (same_edge-refl edge))
     (λ _. same_edge-refl edge)
 
 -- a number is among those that are kept exactly where it is kept
@@ -188,10 +188,10 @@ module _ (level : Level) (mesh : ObjMesh) (is : IsManifoldWithSharpBoundary leve
 
       here : (b : Bool) → is_boundary level.polygons edge ≡ b
           → (if is_boundary level.polygons edge then Infinite else tagged_edge (written_creases level) edge) ≡ edge_sharpness_of level edge
-      here true alone =
+      here true on_boundary =
           let sharp =
           all-at (λ e. not (is_boundary level.polygons e) || is_infinite (edge_sharpness_of level e)) edges i (0, 0) inside is.sharp_boundary in
-          rw alone (sym (is-infinite (edge_sharpness_of level edge) (taken (is_boundary level.polygons edge) _ alone sharp)))
+          rw on_boundary (sym (is-infinite (edge_sharpness_of level edge) (taken (is_boundary level.polygons edge) _ on_boundary sharp)))
         where
           taken : (b c : Bool) → b ≡ true → (not b || c) ≡ true → c ≡ true
           taken b c h k = grind (arith, nat_tests)
