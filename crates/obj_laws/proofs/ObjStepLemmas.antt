@@ -7,9 +7,6 @@ use Rattle.std.proofs.lemmas.Grind.{flat_map-append}
 use Rattle.subdiv_model.specs.Lists.{last_of, places}
 use Rattle.obj_laws.proofs.ObjLineLemmas.{places-more}
 
-abbrev Words : Type 0
-Words = List (List ℕ)
-
 filter-one : {X : Type 0} (kind : X → Bool) (x : X) (b : Bool) → b ≡ kind x → filter kind (x ∷ []) ≡ cond b (x ∷ []) []
 filter-one kind x b e = ap (λ c. cond c (x ∷ []) []) (sym e)
 
