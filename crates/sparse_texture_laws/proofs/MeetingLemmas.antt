@@ -16,16 +16,12 @@ use Rattle.part_laws.proofs.TermLemmas.{all-true}
 use Rattle.sparse_laws.proofs.InnerLemmas.{inner-present, places-ascend, range-ascends}
 use Rattle.sparse_laws.proofs.NumberLemmas.{corners-length}
 use Rattle.sparse_laws.proofs.SelectedLemmas.{selected-chosen}
-use Rattle.sparse_texture_laws.specs.Selection.{IsSelection, is_chosen, is_chosen_in, is_selected_kind, selected_numbers}
+use Rattle.sparse_texture_laws.specs.Selection.{IsSelection, is_chosen_in, is_selected_kind, selected_numbers}
 use Rattle.sparse_texture_laws.proofs.SelectionLemmas.{kept-among, filter-agree, selected-among}
 
 -- the test by the numbers of all levels selects these numbers at each level
 pub selection-agrees : (base : Level) (depth : ℕ) (numbers : List (List ℕ)) → IsSelection base depth numbers → (k : ℕ) → k < depth → get_or numbers k [] ≡ meeting_of (is_chosen_in numbers) base k
 selection-agrees base depth numbers is k h = is.each k h
-
--- the test by the numbers of one level selects the same faces
-pub numbers-agree : (base : Level) (depth : ℕ) (numbers : List (List ℕ)) → IsSelection base depth numbers → (k : ℕ) → k < depth → get_or numbers k [] ≡ meeting_of (is_chosen (get_or numbers k [])) base k
-numbers-agree base depth numbers is k h = is.each k h
 
 -- the selection is the predicate of the test
 pub selection-meeting : (base : Level) (depth : ℕ) (numbers : List (List ℕ)) → IsSelection base depth numbers → meeting_to (is_chosen_in numbers) base depth ≡ numbers

@@ -10,7 +10,6 @@ use Rattle.subdiv_model.specs.Child.{refined_level}
 use Rattle.subdiv_model.specs.Sparse.{Meeting, corners_of, is_on, selected, inner, present}
 use Rattle.subdiv_model.specs.SparseTexture.{selected_to}
 use Rattle.number_laws.proofs.CountLemmas.{any-weaker}
-use Rattle.part_laws.proofs.ListLemmas.{joined-mapped, mapped-joined}
 use Rattle.sparse_laws.proofs.InnerLemmas.{inner-present}
 use Rattle.sparse_laws.proofs.NumberLemmas.{as-filter, among-places}
 use Rattle.sparse_laws.proofs.SelectedLemmas.{among-all, range-below}
@@ -18,6 +17,7 @@ use Rattle.sparse_texture_laws.specs.Cut.{HaveSameFaces, IsCutOf}
 use Rattle.sparse_texture_laws.proofs.FaceLemmas.{count-same}
 use Rattle.sparse_texture_laws.proofs.SelectionLemmas.{kept-among, cut-inner, cut-selected}
 use Rattle.sparse_texture_laws.proofs.CutLemmas.{cut-after, cut-faces}
+use Rattle.sparse_laws.proofs.WrittenLemmas.{corners-renamed}
 
 -- places are places of the list
 place-within : (test : ℕ → Bool) (xs : List ℕ) (n : ℕ) → is_among (places test xs) n ≡ true → n < length xs
@@ -31,9 +31,6 @@ polygon-named : (name : ℕ → ℕ) (polygons : List Polygon) (f : ℕ) → pol
 polygon-named name [] f = refl
 polygon-named name (polygon ∷ polygons) zero = refl
 polygon-named name (polygon ∷ polygons) (suc f) = polygon-named name polygons f
-
-corners-named : (name : ℕ → ℕ) (polygons : List Polygon) → corners_of (map (map name) polygons) ≡ map name (corners_of polygons)
-corners-named name polygons = joined-mapped (λ polygon. polygon) (map name) polygons ∙ sym (mapped-joined name (λ polygon. polygon) polygons)
 
 -- a corner is a corner by its name
 corner-named : (name : ℕ → ℕ) (v : ℕ) (polygon : Polygon) → has_corner v polygon ≡ true → has_corner (name v) (map name polygon) ≡ true
@@ -54,7 +51,7 @@ places-named : (name : ℕ → ℕ) (polygons others : List Polygon) (faces : Li
 places-named name polygons others faces n e h =
     let corners = corners_of polygons in
     let inside = place-within (is_on polygons faces) corners n h in
-    let named : corners_of others ≡ map name corners = ap corners_of (sym e) ∙ corners-named name polygons in
+    let named : corners_of others ≡ map name corners = ap corners_of (sym e) ∙ corners-renamed name polygons in
     let long : length (corners_of others) ≡ length corners = ap length named ∙ length-map corners name in
     let on : is_on polygons faces (get_or corners n 0) ≡ true = sym (among-places (is_on polygons faces) 0 n corners inside) ∙ h in
     among-places (is_on others faces) 0 n (corners_of others) (omega (arith, inside, long))
