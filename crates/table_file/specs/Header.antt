@@ -1,7 +1,9 @@
 -- The words of a first line.
-use Rattle.std.specs.Prelude.{ℕ, ◌≡◌, Bool, true, ◌&&◌, nat_le, List, [], length, drop, get_or, bytes_eq}
+use Rattle.std.specs.Prelude.{ℕ, ◌≡◌, Bool, true, ◌&&◌, nat_le, List, [], length, drop, get_or, bytes_eq, Some, None, Result, MatchResult}
 use Rattle.subdiv_model.specs.Digits.{is_number_word, number_of_digits}
-use Rattle.subdiv_model.specs.ReadTable.{Header}
+use Rattle.subdiv_model.specs.ReadTable.{Header, is_header_form, header_of, header_cause}
+use Rattle.table_file.specs.View.{cause_of}
+use Rattle.table_file.specs.declared.fault.TableCause.{TableCause}
 use Rattle.table_file.specs.declared.header.HeaderWords.{HeaderWords}
 
 -- the words begin with a name and a number
@@ -29,3 +31,12 @@ header_of_words words = record {
   rows = number_of_digits words.rows.now;
   entries = number_of_digits words.entries.now;
 }
+
+-- the words are those of a first line, and these are the words of its numbers
+abbrev pub IsHeaderForm : HeaderWords → List (List ℕ) → Type 0
+IsHeaderForm words list = (is_header_form list ≡ true) × AreHeaderWords words list × AreNumbers words
+
+-- the header of the words of a first line, or the cause that refuses them
+abbrev pub IsHeaderRead : List (List ℕ) → Result Header TableCause → Type 0
+IsHeaderRead list result =
+    MatchResult result (λ header. (header_cause list ≡ None) × (header ≡ header_of list)) (λ cause. header_cause list ≡ Some (cause_of cause))

@@ -34,3 +34,7 @@ IsFaultOf reading read.Memory = Unit {0}
 abbrev pub IsTableRead : List ℕ → Result TableRead TableReadFault → Type 0
 IsTableRead bytes result =
     MatchResult result (λ found. IsReadUpTo (read_table bytes) bytes found.table found.end) (λ fault. IsFaultOf (read_table bytes) fault)
+
+-- the place after this table, or the fault of the definition
+abbrev pub IsTableEnd : Result Reading TableFault → List ℕ → Table → Result ℕ TableReadFault → Type 0
+IsTableEnd reading bytes table result = MatchResult result (λ end. IsReadUpTo reading bytes table end) (λ fault. IsFaultOf reading fault)

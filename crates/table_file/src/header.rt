@@ -1,14 +1,13 @@
 //! The first line of a stored table.
 
-ghost use Rattle.std.specs.Prelude.{◌≡◌, ◌&&◌, ◌≤◌, ◌^◌, true, false, [], drop, length, get_or, bytes_eq, codes, None, Some, MatchOption, MatchResult};
+ghost use Rattle.std.specs.Prelude.{◌≡◌, ◌&&◌, ◌≤◌, ◌^◌, true, false, [], drop, length, get_or, bytes_eq, codes, MatchOption};
 ghost use Rattle.subdiv_model.specs.Digits.{is_number_word, number_of_digits};
-ghost use Rattle.subdiv_model.specs.ReadTable.{spaced_words, is_header_form, is_header_in_range, header_of, header_cause, is_miscounted};
-ghost use Rattle.table_file.specs.View.{cause_of};
+ghost use Rattle.subdiv_model.specs.ReadTable.{spaced_words, is_header_form, is_header_in_range, is_miscounted};
 ghost use Rattle.table_file.specs.Words.{words_left};
-ghost use Rattle.table_file.specs.Header.{AreHeaderWords, AreNumbers, IsNamedNumber, is_named_number, header_of_words};
+ghost use Rattle.table_file.specs.Header.{IsHeaderForm, IsHeaderRead, AreNumbers, IsNamedNumber, is_named_number, header_of_words};
 
 use crate::fault::TableCause;
-use crate::number::{is_number, read_between};
+use crate::number::{is_number, read_in_range};
 use crate::words::{Words, is_word, words_of};
 use std::marker::Model;
 
@@ -73,7 +72,7 @@ fn named_number<'a>(words: &mut Words<'a>, name: &[u8]) -> Option<&'a [u8]>
 // Returns the words of the numbers of a first line. It returns `None` if the line has other words.
 fn header_words(line: &[u8]) -> Option<HeaderWords<'_>>
     ensures { MatchOption result (is_header_form (spaced_words line.now) ≡ false)
-        (λ words. (is_header_form (spaced_words line.now) ≡ true) × AreHeaderWords words (spaced_words line.now) × AreNumbers words) }
+        (λ words. IsHeaderForm words (spaced_words line.now)) }
 {
     let mut words = words_of(line);
     if !is_word(words.next()?, b"table") {
@@ -98,9 +97,9 @@ fn header_in_range(words: &HeaderWords<'_>) -> Option<Header>
     ensures { MatchOption result (is_header_in_range (header_of_words words.now) ≡ false)
         (λ header. (is_header_in_range (header_of_words words.now) ≡ true) × (header ≡ header_of_words words.now)) }
 {
-    let controls = read_between(words.controls, 0, CONTROL_LIMIT + 1)?;
-    let rows = read_between(words.rows, 0, ENTRY_LIMIT + 1)?;
-    let entries = read_between(words.entries, 0, ENTRY_LIMIT + 1)?;
+    let controls = read_in_range(words.controls, 0, CONTROL_LIMIT + 1)?;
+    let rows = read_in_range(words.rows, 0, ENTRY_LIMIT + 1)?;
+    let entries = read_in_range(words.entries, 0, ENTRY_LIMIT + 1)?;
     Some(Header {
         controls,
         rows,
@@ -110,8 +109,7 @@ fn header_in_range(words: &HeaderWords<'_>) -> Option<Header>
 
 // Reads the first line of a stored table.
 pub(crate) fn read_header(line: &[u8]) -> Result<Header, TableCause>
-    ensures { MatchResult result (λ header. (header_cause (spaced_words line.now) ≡ None) × (header ≡ header_of (spaced_words line.now)))
-        (λ cause. header_cause (spaced_words line.now) ≡ Some (cause_of cause)) }
+    ensures { IsHeaderRead (spaced_words line.now) result }
 {
     let words = header_words(line).ok_or(TableCause::Form)?;
     let header = header_in_range(&words).ok_or(TableCause::Range)?;

@@ -8,7 +8,7 @@ ghost use Rattle.subdiv_model.specs.ReadTable.{is_term};
 use ratio128::limits::NUMBER_BOUND;
 
 // Returns whether all bytes are digits.
-fn has_digits_alone(bytes: &[u8]) -> bool
+fn is_all_digits(bytes: &[u8]) -> bool
     ensures { result ≡ list_all is_digit bytes.now }
 {
     for byte in bytes {
@@ -26,7 +26,7 @@ pub(crate) fn is_number(word: &[u8]) -> bool
     match word {
         [first, rest @ ..] => {
             let plain = *first != b'0' || rest.is_empty();
-            has_digits_alone(word) && plain
+            is_all_digits(word) && plain
         }
         [] => false,
     }
@@ -86,7 +86,7 @@ pub(crate) fn read_term(word: &[u8]) -> Option<u128>
 }
 
 // Returns the number in a word. It returns `None` if the number is below `least`, or is `end` or more.
-pub(crate) fn read_between(word: &[u8], least: u32, end: u32) -> Option<u32>
+pub(crate) fn read_in_range(word: &[u8], least: u32, end: u32) -> Option<u32>
     requires { is_number_word word.now ≡ true }
     ensures { let n = number_of_digits word.now in
         MatchOption result ((nat_le least n && nat_lt n end) ≡ false) (λ read. ((nat_le least n && nat_lt n end) ≡ true) × (read ≡ n)) }

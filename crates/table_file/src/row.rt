@@ -15,7 +15,7 @@ ghost use Rattle.table_file.specs.Row.{IsInRange, IsRowForm, row_in};
 
 use crate::fault::TableCause;
 use crate::header::Header;
-use crate::number::{is_number, read_between, read_term};
+use crate::number::{is_number, read_in_range, read_term};
 use crate::words::{Words, is_word, words_of};
 use ratio128::Memory;
 use stencil_apply::Entry;
@@ -71,7 +71,7 @@ fn read_entry(control: &[u8], numerator: &[u8], least: u32, controls: u32) -> Op
     ensures { let share = share_of control.now numerator.now in
         MatchOption result (is_share_in_range controls least share ≡ false) (λ entry. IsNextEntry controls least share entry) }
 {
-    let index = read_between(control, least, controls)?;
+    let index = read_in_range(control, least, controls)?;
     let numerator = read_term(numerator)?;
     Some(Entry { index, numerator })
 }

@@ -6,7 +6,7 @@ ghost use Rattle.stencil_apply.specs.Table.{IsRow, entries_of};
 ghost use Rattle.stencil_apply.specs.Arrays.{row_of};
 ghost use Rattle.stencil_apply.specs.Built.{no_rows, with_row};
 ghost use Rattle.table_file.specs.View.{cause_of};
-ghost use Rattle.table_file.specs.Read.{IsReadUpTo, IsFaultOf};
+ghost use Rattle.table_file.specs.Read.{IsTableEnd, IsFaultOf};
 ghost use Rattle.table_file.specs.Rows.{AreRowsOf, AreRowsWith, IsRowRead, read_on};
 
 use crate::fault::{TableCause, TableReadFault};
@@ -131,8 +131,7 @@ pub(crate) fn read_all(
     requires inside { from ≤ length bytes.now }
     requires good { AreRowsOf header.now rows.old }
     requires none { rows.old.builder.table.rows ≡ [] }
-    ensures read { let reading = read_on header.now rows.old (drop from bytes.now) in
-        MatchResult result (λ end. IsReadUpTo reading bytes.now rows.new.builder.table end) (λ fault. IsFaultOf reading fault) }
+    ensures read { IsTableEnd (read_on header.now rows.old (drop from bytes.now)) bytes.now rows.new.builder.table result }
     ensures few { OnOk result (rows.new.builder.table.controls ≤ 2 ^ 20) }
 {
     let mut at = from;
