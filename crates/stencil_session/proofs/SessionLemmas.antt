@@ -15,7 +15,7 @@ use Rattle.stencil_apply.proofs.RowLemmas.{start-le}
 use Rattle.stencil_session.specs.Session.{IsState, Move, State, numbers_of, move_fault, after_move, mark_rows, row_value, rows_with}
 use Rattle.stencil_session.specs.Columns.{Entry, column_of, columns_of, amount_in, marked, CanAddColumn}
 use Rattle.stencil_session.specs.Kept.{state_of, AreKept, difference_of}
-use Rattle.stencil_session.proofs.ValueLemmas.{none3, row-set, row-within, numerator-most, CanAdd-between}
+use Rattle.stencil_session.proofs.ValueLemmas.{none3, row-set, row-within, numerator-most, CanAdd-from-sums}
 use Rattle.stencil_session.proofs.EntryLemmas.{length-column, amount-column, column-rows-inside, column-once, marks-column}
 use Rattle.stencil_session.proofs.MoveLemmas.{move-inside, move-fits, IsState-after}
 
@@ -107,7 +107,7 @@ module _ (table : Table) (columns : List (List Entry)) (controls values : List P
             ∙ ap (λ xs. plus_times (pos (numerator_of (row_at table e.0).shares i)) xs moved) listed
             ∙ ap (plus_times (pos (numerator_of (row_at table e.0).shares i)) (numbers_of (get_or values e.0 control))) moved-is
             ∙ row-after e.0 control control there in
-            CanAdd-between e.1 (get_or (map numbers_of values) e.0 []) moved
+            CanAdd-from-sums e.1 (get_or (map numbers_of values) e.0 []) moved
             (subst (IsWithin number_bound) (sym listed) (value-within e.0 control there))
             (subst (IsWithin number_bound) (sym sum) (row-within table (set numbers i (numbers_of target)) e.0 are.state.table there after-state.each after-state.fits));
       }

@@ -138,14 +138,14 @@ row-within table controls row is inside count fits =
     (omega (arith, mul-le-mul_right (number_bound / greatest) most, mul-div-le number_bound greatest)) each
 
 -- a product between two sums within a bound can be added
-pub CanAdd-between : (w : ℕ) (xs ys : List ℤ) → IsWithin number_bound xs → IsWithin number_bound (plus_times (pos w) xs ys) → CanAdd (pos w) xs ys
-CanAdd-between w [] ys before after = tt
-CanAdd-between w (x ∷ xs) [] before after = tt
-CanAdd-between w (x ∷ xs) (y ∷ ys) before after = (
-  record { kept = between x (pos w *ℤ y) before.0 after.0 },
+pub CanAdd-from-sums : (w : ℕ) (xs ys : List ℤ) → IsWithin number_bound xs → IsWithin number_bound (plus_times (pos w) xs ys) → CanAdd (pos w) xs ys
+CanAdd-from-sums w [] ys before after = tt
+CanAdd-from-sums w (x ∷ xs) [] before after = tt
+CanAdd-from-sums w (x ∷ xs) (y ∷ ys) before after = (
+  record { kept = product-kept x (pos w *ℤ y) before.0 after.0 },
   record { kept = omega (arith, after.0) },
-  CanAdd-between w xs ys before.1 after.1,
+  CanAdd-from-sums w xs ys before.1 after.1,
 )
   where
-    between : (x p : ℤ) → unsigned_abs x ≤ number_bound → unsigned_abs (x +ℤ p) ≤ number_bound → unsigned_abs p < 2 ^ 127
-    between x p h k = omega (arith, ints)
+    product-kept : (x p : ℤ) → unsigned_abs x ≤ number_bound → unsigned_abs (x +ℤ p) ≤ number_bound → unsigned_abs p < 2 ^ 127
+    product-kept x p h k = omega (arith, ints)

@@ -85,3 +85,7 @@ row_value state row = sum_of_row (pos 0 ∷ pos 0 ∷ pos 0 ∷ []) state.contro
 abbrev pub without_mark : State → Option ℕ → State
 without_mark state None = state
 without_mark state (Some row) = record { table = state.table; controls = state.controls; marks = set state.marks row false }
+
+-- the sum of a row over controls, each as three numbers
+abbrev pub sum_of_three : List (List ℤ) → Row → List ℤ
+sum_of_three controls row = sum_of_row (pos 0 ∷ pos 0 ∷ pos 0 ∷ []) controls row

@@ -2,9 +2,9 @@
 //!
 //! Each public function here takes nothing, does nothing and returns nothing: its clauses are the laws.
 
-ghost use Rattle.std.specs.Prelude.{◌≡◌, ◌↔◌, ℕ, ◌<◌, pos, false, List, [], ◌∷◌, length, get_or};
-ghost use Rattle.stencil_apply.specs.Table.{row_at, sum_of_row};
-ghost use Rattle.stencil_session.specs.Session.{State, IsState, after_moves, row_value};
+ghost use Rattle.std.specs.Prelude.{◌≡◌, ◌↔◌, ℕ, ◌<◌, false, List, length, get_or};
+ghost use Rattle.stencil_apply.specs.Table.{row_at};
+ghost use Rattle.stencil_session.specs.Session.{State, IsState, after_moves, row_value, sum_of_three};
 ghost use Rattle.stencil_session.specs.Laws.{MovedState, UnmarkedState, controls_after, has_moved, moved_rows, marked_rows, AreTaken};
 
 /// A session agrees with its table. After moves without a fault, each control has the value of its last move, or its first
@@ -14,7 +14,7 @@ pub fn sessions_agree_with_their_tables()
     ensures state { (moved : MovedState) → IsState (after_moves moved.state moved.moves) }
     ensures controls { (moved : MovedState) → (after_moves moved.state moved.moves).controls ≡ controls_after moved.state moved.moves }
     ensures values { (moved : MovedState) (row : ℕ) → row_value (after_moves moved.state moved.moves) row
-        ≡ sum_of_row (pos 0 ∷ pos 0 ∷ pos 0 ∷ []) (controls_after moved.state moved.moves) (row_at moved.state.table row) }
+        ≡ sum_of_three (controls_after moved.state moved.moves) (row_at moved.state.table row) }
 {}
 
 /// From a state without marks, moves mark exactly the rows that have a moved control. Repeated calls of `next_changed` return

@@ -1,14 +1,14 @@
 //! The session of a table.
 
-ghost use Rattle.std.specs.Prelude.{◌≡◌, ℕ, ◌+◌, ◌*◌, ◌<◌, ◌≤◌, pos, [], ◌∷◌, false, Some, None, length, map, replicate, get_or, IfOk, OnOk, OnErr, IfSome, MatchResult};
+ghost use Rattle.std.specs.Prelude.{◌≡◌, ℕ, ◌+◌, ◌*◌, ◌<◌, ◌≤◌, [], false, Some, None, length, map, replicate, get_or, IfOk, OnOk, OnErr, IfSome, MatchResult};
 ghost use Rattle.std.specs.List.{All};
 ghost use Rattle.std.specs.Option.{option_map};
 ghost use Rattle.subdiv_model.specs.Channel.{number_bound};
 ghost use Rattle.ratio128.specs.Numbers.{greatest_amount};
 ghost use Rattle.ratio128.specs.declared.point.Point3.{Point3};
 ghost use Rattle.point_marks.specs.Tree.{least_mark, mark_count};
-ghost use Rattle.stencil_apply.specs.Table.{row_at, entries_of, greatest_of, sum_of_row};
-ghost use Rattle.stencil_session.specs.Session.{IsState, numbers_of, rows_with, after_move, move_fault, after_moves, move_of, moves_made, first_fault, rows_visited, row_value, without_mark};
+ghost use Rattle.stencil_apply.specs.Table.{row_at, entries_of, greatest_of};
+ghost use Rattle.stencil_session.specs.Session.{IsState, numbers_of, rows_with, after_move, move_fault, after_moves, move_of, moves_made, first_fault, rows_visited, row_value, sum_of_three, without_mark};
 
 use crate::add::{add_column, difference};
 use crate::columns::Columns;
@@ -53,7 +53,7 @@ fn evaluate<L: Ledger>(
     requires controls { length controls.now ≡ table.now.controls }
     requires fits { All (λ p. greatest_of table.now * greatest_amount (numbers_of p) ≤ number_bound) controls.now }
     requires places { length values.old.items ≡ length table.now.rows }
-    ensures sums { (row : ℕ) (d : Point3) → row < length table.now.rows → numbers_of (get_or values.new.items row d) ≡ sum_of_row (pos 0 ∷ pos 0 ∷ pos 0 ∷ []) (map numbers_of controls.now) (row_at table.now row) }
+    ensures sums { (row : ℕ) (d : Point3) → row < length table.now.rows → numbers_of (get_or values.new.items row d) ≡ sum_of_three (map numbers_of controls.now) (row_at table.now row) }
     ensures long { length values.new.items ≡ length table.now.rows }
     ensures steps { steps.new ≡ steps.old + entries_of table.now.rows }
 {
