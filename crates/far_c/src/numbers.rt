@@ -5,7 +5,7 @@ ghost use Rattle.nearest_float.specs.Binary.{binary32, binary64};
 ghost use Rattle.flat_arrays.specs.Words.{natural_of};
 ghost use Rattle.fault_record.specs.Arrays.{record_of_bad_number, row};
 ghost use Rattle.far_c.specs.Numbers.{AnswersRounding, AnswersScale};
-ghost use Rattle.far_c.specs.Status.{IsKeptUnlessRefused, IsKeptIfRefused};
+ghost use Rattle.far_c.specs.Status.{IsKeptUnlessDone, IsKeptUnlessRefused};
 
 use exact_arrays::{
     NumberFault, round_binary32s, round_binary64s, scale_binary32s, scale_binary64s,
@@ -47,7 +47,7 @@ pub extern "C" fn far_scale_doubles(
     ensures answer { AnswersScale binary64 bits.now result (natural_of scale.new) out.old out.new fault.new }
     ensures rest { drop (length bits.now) out.new ≡ drop (length bits.now) out.old }
     ensures len { length out.new ≡ length out.old }
-    ensures stays { IsKeptIfRefused result scale.old scale.new × IsKeptUnlessRefused result fault.old fault.new }
+    ensures stays { IsKeptUnlessDone result scale.old scale.new × IsKeptUnlessRefused result fault.old fault.new }
 {
     if out.len() < bits.len() {
         return TOO_SHORT;
@@ -76,7 +76,7 @@ pub extern "C" fn far_scale_floats(
     ensures answer { AnswersScale binary32 bits.now result (natural_of scale.new) out.old out.new fault.new }
     ensures rest { drop (length bits.now) out.new ≡ drop (length bits.now) out.old }
     ensures len { length out.new ≡ length out.old }
-    ensures stays { IsKeptIfRefused result scale.old scale.new × IsKeptUnlessRefused result fault.old fault.new }
+    ensures stays { IsKeptUnlessDone result scale.old scale.new × IsKeptUnlessRefused result fault.old fault.new }
 {
     if out.len() < bits.len() {
         return TOO_SHORT;
@@ -106,7 +106,7 @@ pub extern "C" fn far_round_doubles(
     ensures answer { AnswersRounding binary64 grid_bits bits.now result changed.new out.old out.new fault.new }
     ensures rest { drop (length bits.now) out.new ≡ drop (length bits.now) out.old }
     ensures len { length out.new ≡ length out.old }
-    ensures stays { IsKeptIfRefused result changed.old changed.new × IsKeptUnlessRefused result fault.old fault.new }
+    ensures stays { IsKeptUnlessDone result changed.old changed.new × IsKeptUnlessRefused result fault.old fault.new }
 {
     if grid_bits > FINEST_GRID {
         *fault = bad_grid();
@@ -140,7 +140,7 @@ pub extern "C" fn far_round_floats(
     ensures answer { AnswersRounding binary32 grid_bits bits.now result changed.new out.old out.new fault.new }
     ensures rest { drop (length bits.now) out.new ≡ drop (length bits.now) out.old }
     ensures len { length out.new ≡ length out.old }
-    ensures stays { IsKeptIfRefused result changed.old changed.new × IsKeptUnlessRefused result fault.old fault.new }
+    ensures stays { IsKeptUnlessDone result changed.old changed.new × IsKeptUnlessRefused result fault.old fault.new }
 {
     if grid_bits > FINEST_GRID {
         *fault = bad_grid();
