@@ -4,3 +4,4 @@ mod StoredLemmas
 pub mod OriginLemmas
 pub mod TextureLemmas
 pub mod SparseLemmas
+mod RestLemmas

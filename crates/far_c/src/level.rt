@@ -2,6 +2,7 @@
 
 ghost use Rattle.std.specs.Prelude.{◌≡◌};
 ghost use Rattle.flat_arrays.specs.Places.{IsSameArray};
+ghost use Rattle.level_arrays.specs.Places.{IsRestKept};
 ghost use Rattle.far_c.specs.Answers.{AnswersLevel};
 ghost use Rattle.far_c.specs.Status.{IsKeptUnlessRefused, IsKeptIfRefused};
 
@@ -13,7 +14,7 @@ use mesh_arrays::MeshArrays;
 use std::alloc::Global;
 
 /// Writes the level of a mesh at `depth`, at most 10, and its counts: the size and the corners of each face, the ends of each edge, the
-/// holes. If an array is too short, it writes only the counts.
+/// holes. If an array is too short, it writes only the counts. Places behind the items keep their contents.
 #[unsafe(no_mangle)]
 pub extern "C" fn far_level(
     alloc: Global,
@@ -24,6 +25,7 @@ pub extern "C" fn far_level(
     fault: &mut FaultRecord,
 ) -> u32
     ensures answer { AnswersLevel mesh.now depth result counts.new places.old places.new fault.new }
+    ensures rest { IsRestKept counts.new places.old places.new }
     ensures face_sizes { IsSameArray places.old.face_sizes places.new.face_sizes }
     ensures corners { IsSameArray places.old.corners places.new.corners }
     ensures edges { IsSameArray places.old.edges places.new.edges }

@@ -2,6 +2,7 @@
 
 ghost use Rattle.std.specs.Prelude.{◌≡◌, length};
 ghost use Rattle.flat_arrays.specs.Places.{IsSameArray};
+ghost use Rattle.table_arrays.specs.Places.{IsExactRestKept};
 ghost use Rattle.far_c.specs.Stored.{AnswersCheck, AnswersRead, AnswersWrite};
 ghost use Rattle.far_c.specs.Status.{IsKeptUnlessRefused, IsKeptIfRefused};
 
@@ -13,7 +14,7 @@ use stored_arrays::{ExactRows, check_stored, read_stored, table_of_rows, write_s
 use table_arrays::{ExactPlaces, TableCounts, counts_of, put_exact_table};
 
 /// Writes the table whose text these bytes begin with, its counts, and the length of its text in bytes. If an array is too short, it
-/// writes only the counts and the length.
+/// writes only the counts and the length. Places behind the items keep their contents.
 #[unsafe(no_mangle)]
 pub extern "C" fn far_table_read(
     alloc: Global,
@@ -24,6 +25,7 @@ pub extern "C" fn far_table_read(
     fault: &mut FaultRecord,
 ) -> u32
     ensures answer { AnswersRead text.now result counts.new end.new places.old places.new fault.new }
+    ensures rest { IsExactRestKept counts.new places.old places.new }
     ensures starts { IsSameArray places.old.starts places.new.starts }
     ensures indices { IsSameArray places.old.indices places.new.indices }
     ensures numerators { IsSameArray places.old.numerators places.new.numerators }

@@ -17,7 +17,8 @@ use table_arrays::{
 };
 
 /// Writes the table of the requested rows of a mesh, and its counts. Each row has a start and a denominator, each entry a control point
-/// and an exact numerator. If an array is too short, it writes only the counts.
+/// and an exact numerator. If an array is too short, it writes only the counts. Places behind the items keep their
+/// contents.
 #[unsafe(no_mangle)]
 pub extern "C" fn far_table_exact(
     alloc: Global,
@@ -28,6 +29,7 @@ pub extern "C" fn far_table_exact(
     fault: &mut FaultRecord,
 ) -> u32
     ensures answer { AnswersTable table.are_exact_long_enough table.IsExactWritten mesh.now request.now result counts.new places.old places.new fault.new }
+    ensures rest { table.IsExactRestKept counts.new places.old places.new }
     ensures starts { IsSameArray places.old.starts places.new.starts }
     ensures indices { IsSameArray places.old.indices places.new.indices }
     ensures numerators { IsSameArray places.old.numerators places.new.numerators }
@@ -50,7 +52,8 @@ pub extern "C" fn far_table_exact(
 }
 
 /// Writes the table of the requested rows of a mesh, and its counts. Each row has a start, each entry a control point and the nearest
-/// double of its weight. If an array is too short, it writes only the counts.
+/// double of its weight. If an array is too short, it writes only the counts. Places behind the items keep their
+/// contents.
 #[unsafe(no_mangle)]
 pub extern "C" fn far_table_doubles(
     alloc: Global,
@@ -61,6 +64,7 @@ pub extern "C" fn far_table_doubles(
     fault: &mut FaultRecord,
 ) -> u32
     ensures answer { AnswersTable table.are_doubles_long_enough table.AreDoublesWritten mesh.now request.now result counts.new places.old places.new fault.new }
+    ensures rest { table.IsDoubleRestKept counts.new places.old places.new }
     ensures starts { IsSameArray places.old.starts places.new.starts }
     ensures indices { IsSameArray places.old.indices places.new.indices }
     ensures weights { IsSameArray places.old.weights places.new.weights }
@@ -82,7 +86,8 @@ pub extern "C" fn far_table_doubles(
 }
 
 /// Writes the table of the requested rows of a mesh, and its counts. Each row has a start, each entry a control point and the nearest
-/// float of its weight. If an array is too short, it writes only the counts.
+/// float of its weight. If an array is too short, it writes only the counts. Places behind the items keep their
+/// contents.
 #[unsafe(no_mangle)]
 pub extern "C" fn far_table_floats(
     alloc: Global,
@@ -93,6 +98,7 @@ pub extern "C" fn far_table_floats(
     fault: &mut FaultRecord,
 ) -> u32
     ensures answer { AnswersTable table.are_floats_long_enough table.AreFloatsWritten mesh.now request.now result counts.new places.old places.new fault.new }
+    ensures rest { table.IsFloatRestKept counts.new places.old places.new }
     ensures starts { IsSameArray places.old.starts places.new.starts }
     ensures indices { IsSameArray places.old.indices places.new.indices }
     ensures weights { IsSameArray places.old.weights places.new.weights }

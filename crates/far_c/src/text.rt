@@ -1,7 +1,7 @@
 //! The mesh of an OBJ text.
 
 ghost use Rattle.std.specs.Prelude.{◌≡◌};
-ghost use Rattle.mesh_arrays.specs.Written.{AreSamePlaces};
+ghost use Rattle.mesh_arrays.specs.Written.{AreSamePlaces, IsRestKept};
 ghost use Rattle.far_c.specs.Texts.{AnswersText};
 ghost use Rattle.far_c.specs.Status.{IsKeptUnlessRefused, IsKeptIfRefused};
 
@@ -17,7 +17,7 @@ use std::alloc::Global;
 const TEXT_LIMIT: usize = 1 << 28;
 
 /// Writes the mesh of an OBJ text of at most 2^28 bytes, its counts and its options. If an array is too short, it writes only the counts
-/// and the options.
+/// and the options. Places behind the items keep their contents.
 #[unsafe(no_mangle)]
 pub extern "C" fn far_read_obj(
     alloc: Global,
@@ -28,6 +28,7 @@ pub extern "C" fn far_read_obj(
     fault: &mut FaultRecord,
 ) -> u32
     ensures answer { AnswersText text.now result counts.new options.new places.old places.new fault.new }
+    ensures rest { IsRestKept counts.new places.old places.new }
     ensures places { AreSamePlaces places.old places.new }
     ensures stays { IsKeptIfRefused result counts.old counts.new × IsKeptIfRefused result options.old options.new × IsKeptUnlessRefused result fault.old fault.new }
 {

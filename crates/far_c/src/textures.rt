@@ -3,6 +3,7 @@
 ghost use Rattle.std.specs.Prelude.{◌≡◌, ◌*◌, length, nat_le, map, take, drop, true, false};
 ghost use Rattle.flat_arrays.specs.Places.{IsSameArray};
 ghost use Rattle.flat_arrays.specs.Words.{integer_of};
+ghost use Rattle.level_arrays.specs.Places.{IsRestKept};
 ghost use Rattle.point_arrays.specs.Values.{all_value_numerators};
 ghost use Rattle.far_c.specs.Textures.{AnswersTextureLevel, AnswersTextureValues};
 ghost use Rattle.far_c.specs.Status.{IsKeptUnlessDone, IsKeptUnlessRefused, IsKeptIfRefused};
@@ -41,7 +42,7 @@ fn put_values(found: &TextureArrays, out: &mut [Wide]) -> bool
 
 /// Writes the level of a mesh's cut mesh at `depth`, at most 10, and its counts: the size and the corners of each face, the ends of each
 /// edge, the holes. `seams` chooses what stays sharp: 0 nothing, 1 the corners of charts, 2 their whole boundaries, 3 every point. If an
-/// array is too short, it writes only the counts.
+/// array is too short, it writes only the counts. Places behind the items keep their contents.
 #[unsafe(no_mangle)]
 pub extern "C" fn far_texture_level(
     alloc: Global,
@@ -53,6 +54,7 @@ pub extern "C" fn far_texture_level(
     fault: &mut FaultRecord,
 ) -> u32
     ensures answer { AnswersTextureLevel mesh.now seams depth result counts.new places.old places.new fault.new }
+    ensures rest { IsRestKept counts.new places.old places.new }
     ensures face_sizes { IsSameArray places.old.face_sizes places.new.face_sizes }
     ensures corners { IsSameArray places.old.corners places.new.corners }
     ensures edges { IsSameArray places.old.edges places.new.edges }

@@ -1,6 +1,8 @@
-use Rattle.std.proofs.Common.{rules}
+use Rattle.std.proofs.Common.{rules, subst, sym}
 use Rattle.far_c.proofs.StatusLemmas.{level-answered, level-refused, refused-at-status}
 use Rattle.far_c.proofs.RefusalLemmas.{none-kept}
+use Rattle.level_arrays.specs.Places.{IsRestKept}
+use Rattle.far_c.proofs.RestLemmas.{level-kept}
 use Rattle.far_c.proofs.level.far_level.Goals as goal
 
 pub returns-in-Ok-clause-answer : goal.returns-in-Ok-clause-answer
@@ -18,3 +20,9 @@ returns-in-Err-clause-stays c =
 
 pub returns-in-Ok-clause-stays : goal.returns-in-Ok-clause-stays
 returns-in-Ok-clause-stays c = search rules
+
+pub returns-in-Ok-clause-rest : goal.returns-in-Ok-clause-rest
+returns-in-Ok-clause-rest c = subst (λ counts. IsRestKept counts c.args.places.now c.put_level-done.new.places) (sym c.counts_of.ensures) c.put_level-done.ensures.rest
+
+pub returns-in-Err-clause-rest : goal.returns-in-Err-clause-rest
+returns-in-Err-clause-rest c = level-kept _ c.args.places.now

@@ -1,8 +1,9 @@
-use Rattle.std.proofs.Common.{rules}
+use Rattle.std.proofs.Common.{rules, subst, sym}
 use Rattle.table_arrays.specs.Places as table
 use Rattle.far_c.proofs.StatusLemmas.{table-answered, table-refused}
 use Rattle.array_answers.specs.Asked.{rows_asked}
 use Rattle.far_c.proofs.RefusalLemmas.{none-kept, request-status}
+use Rattle.far_c.proofs.RestLemmas.{float-kept}
 use Rattle.far_c.proofs.tables.far_table_floats.Goals as goal
 
 pub returns-in-Ok-clause-answer : goal.returns-in-Ok-clause-answer
@@ -17,3 +18,9 @@ pub returns-in-Err-clause-stays : goal.returns-in-Err-clause-stays
 returns-in-Err-clause-stays c =
     let none = none-kept c.in-Err.found.status (request-status (rows_asked c.args.request.now) c.args.mesh.now c.in-Err.found c.in-Err.ensures) in
     search (rules, none)
+
+pub returns-in-Ok-clause-rest : goal.returns-in-Ok-clause-rest
+returns-in-Ok-clause-rest c = subst (λ counts. table.IsFloatRestKept counts c.args.places.now c.put_float_table-done.new.places) (sym c.counts_of.ensures) c.put_float_table-done.ensures.rest
+
+pub returns-in-Err-clause-rest : goal.returns-in-Err-clause-rest
+returns-in-Err-clause-rest c = float-kept _ c.args.places.now

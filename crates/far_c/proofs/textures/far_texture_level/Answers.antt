@@ -1,7 +1,9 @@
-use Rattle.std.proofs.Common.{rules}
+use Rattle.std.proofs.Common.{rules, subst, sym}
 use Rattle.far_c.proofs.TextureLemmas.{texture-level-answered, texture-level-refused}
 use Rattle.array_answers.specs.Asked.{texture_asked}
 use Rattle.far_c.proofs.RefusalLemmas.{none-kept, request-status}
+use Rattle.level_arrays.specs.Places.{IsRestKept}
+use Rattle.far_c.proofs.RestLemmas.{level-kept}
 use Rattle.far_c.proofs.textures.far_texture_level.Goals as goal
 
 pub returns-in-Ok-clause-answer : goal.returns-in-Ok-clause-answer
@@ -16,3 +18,9 @@ pub returns-in-Err-clause-stays : goal.returns-in-Err-clause-stays
 returns-in-Err-clause-stays c =
     let none = none-kept c.in-Err.refused.status (request-status (texture_asked c.args.seams c.args.depth) c.args.mesh.now c.in-Err.refused c.in-Err.ensures) in
     search (rules, none)
+
+pub returns-in-Ok-clause-rest : goal.returns-in-Ok-clause-rest
+returns-in-Ok-clause-rest c = subst (λ counts. IsRestKept counts c.args.places.now c.put_level-done.new.places) (sym c.counts_of.ensures) c.put_level-done.ensures.rest
+
+pub returns-in-Err-clause-rest : goal.returns-in-Err-clause-rest
+returns-in-Err-clause-rest c = level-kept _ c.args.places.now
