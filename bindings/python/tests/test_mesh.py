@@ -188,7 +188,7 @@ class Text(unittest.TestCase):
         for bits in (-1, 127, 1.5):
             with self.subTest(bits), self.assertRaises(drillolive.ArgumentError):
                 drillolive.Mesh.from_obj(text, grid_bits=bits)
-        self.assertEqual(drillolive.Mesh.from_obj(text, grid_bits=None).rounded, 0)
+        self.assertEqual(drillolive.Mesh.from_obj(example("cube"), grid_bits=None).rounded, 0)
 
     def test_examples(self) -> None:
         for name in meshes():
