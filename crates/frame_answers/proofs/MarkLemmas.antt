@@ -61,11 +61,11 @@ marks-gone moved (x ∷ xs) = ap (λ marks. false ∷ marks) (marks-gone moved x
 
 -- the number of rows that have a control
 one-more : (control : ℕ) (shares : List Share) → list_any (λ share. nat_eq share.0 control) shares ≡ is_moved (control ∷ []) (support_of shares)
-one-more control shares = has-control control shares ∙ alone (is_among (support_of shares) control)
+one-more control shares = has-control control shares ∙ or-false (is_among (support_of shares) control)
   where
-    alone : (b : Bool) → b ≡ (b || false)
-    alone true = refl
-    alone false = refl
+    or-false : (b : Bool) → b ≡ (b || false)
+    or-false true = refl
+    or-false false = refl
 
 pub rows-count : (control first : ℕ) (rows : List Row) → count_by (has_control control) rows ≡ length (places_from first (is_moved (control ∷ [])) (supports rows))
 rows-count control first [] = refl

@@ -44,10 +44,10 @@ module _ {T E : Type 0} (mesh : ObjMesh) (options : RefineOptions) (fine : IsSma
   -- the positions are refused
   pub positions-end : (points : List Point3) → map point_of points ≡ mesh.points → (fault : WalkFault) (far : FarFault) → fault_of far ≡ walk_fault_of Positions fault →
       IsChannelFault asked base options.depth fault → IsAnswerTo (Refine options) mesh (Err far) old second
-  positions-end points said fault far told is =
+  positions-end points said fault far fault-is is =
       let why = position.positions-failed mesh options base points fine same said fault (subst (λ asked. IsChannelFault asked base options.depth fault) path is) in
       refuses (Refine options) mesh old second (omega (arith, tracks.later, positions.later)) (positions-fit mesh options old first second tracks.most positions.most)
-      (Err far) far refl refl (positions-found mesh options fine (fault_of far) (subst (IsPositionFault options mesh) (sym told) why))
+      (Err far) far refl refl (positions-found mesh options fine (fault_of far) (subst (IsPositionFault options mesh) (sym fault-is) why))
 
   module _ (refined : RefinedChannel Point3) (ok : found ≡ Ok refined) where
     taken-least : first + position_steps options.by options.depth mesh ≤ second
@@ -72,13 +72,13 @@ module _ {T E : Type 0} (mesh : ObjMesh) (options : RefineOptions) (fine : IsSma
       -- the texture is refused
       pub texture-end : ((track : Track) → channel_faults asked base track options.depth ≡ []) → (fault : WalkFault) (far : FarFault) → fault_of far ≡ walk_fault_of Texture fault →
           IsChannelFault asked cut options.depth fault → IsAnswerTo (Refine options) mesh (Err far) old third
-      texture-end none fault far told is =
+      texture-end none fault far fault-is is =
           let before : position_faults options mesh ≡ [] =
           subst (λ b. channel_faults (asked_of options.by) b Positions options.depth ≡ []) same (subst (λ a. channel_faults a base Positions options.depth ≡ []) path (none Positions)) in
           let why = texture.texture-failed mesh options cut values fine textured same-cut said fault (subst (λ asked. IsChannelFault asked cut options.depth fault) path is) in
           refuses (Refine options) mesh old third (omega (arith, tracks.later, positions.later, texture-taken.later))
           (all-fit mesh options old first second third tracks.most positions.most texture-taken.most) (Err far) far refl refl
-          (texture-found mesh options fine before (fault_of far) (subst (IsTextureFault options mesh) (sym told) why))
+          (texture-found mesh options fine before (fault_of far) (subst (IsTextureFault options mesh) (sym fault-is) why))
 
       -- the positions and the texture are there
       pub textured-end : (last : RefinedChannel Point2) → seen ≡ Ok last → (reply : Reply) → IsReplyTo (Refine options) mesh reply → IsAnswerTo (Refine options) mesh (Ok reply) old third

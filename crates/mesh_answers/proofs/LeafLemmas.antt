@@ -202,8 +202,8 @@ levels-refused options mesh level accepted fault found =
     (found-here fault (map_level_faults options mesh) (location_faults (base_level mesh) options.face options.corner) found)
 
 -- The steps of level 0, and of the levels after it.
-pub map-end : (options : MapOptions) (mesh : ObjMesh) (old between new : ℕ) (r : Result Reply FarFault) → old ≤ between → between ≤ old + length mesh.faces →
+pub map-end : (options : MapOptions) (mesh : ObjMesh) (old middle new : ℕ) (r : Result Reply FarFault) → old ≤ middle → middle ≤ old + length mesh.faces →
     MatchResult r (λ reply. IsReplyTo (command.Map options) mesh reply) (λ fault. IsFound (fault_of fault) (refusal_of_mesh (command.Map options) mesh)) →
-    StepsTaken r between new 0 (later_present options.select options.depth mesh) → IsAnswerTo (command.Map options) mesh r old new
-map-end options mesh old between new r later few reply taken =
+    StepsTaken r middle new 0 (later_present options.select options.depth mesh) → IsAnswerTo (command.Map options) mesh r old new
+map-end options mesh old middle new r later few reply taken =
     record { reply = reply; steps = any-steps r old new 0 (step_limit (command.Map options) mesh) (omega (arith, later, taken.later)) (omega (arith, later, taken.later)) (omega (arith, few, taken.most)) }

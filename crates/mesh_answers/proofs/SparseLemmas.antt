@@ -121,8 +121,8 @@ module _ (options : SparseOptions) (mesh : ObjMesh) (points : List Point3) (said
       }
 
 -- The call for positions only refuses a mesh within its limits for the first fault of the positions.
-pub positions-alone : (options : SparseOptions) (mesh : ObjMesh) → IsWithinLimits mesh → (r : Result (Vec (SparseValues Point3) Global) FarFault) →
+pub positions-untextured : (options : SparseOptions) (mesh : ObjMesh) → IsWithinLimits mesh → (r : Result (Vec (SparseValues Point3) Global) FarFault) →
     MatchResult r (λ levels. ArePointsLevels options mesh levels.items) (λ fault. IsFound (fault_of fault) (sparse_position_refusal options mesh)) → ArePointsLevelsFound options mesh r
-positions-alone options mesh within (Ok levels) are = are
-positions-alone options mesh within (Err fault) found =
+positions-untextured options mesh within (Ok levels) are = are
+positions-untextured options mesh within (Err fault) found =
     subst (IsFound (fault_of fault)) (sym (refusal-of-small mesh within.manifold (sparse_position_faults options mesh) within.small)) found

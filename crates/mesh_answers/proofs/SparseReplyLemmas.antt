@@ -169,8 +169,8 @@ module _ (options : SparseOptions) (mesh : ObjMesh) where
       (texture-refused levels are (fault_of fault) found)
 
   -- The steps of level 0 and of the cut mesh, and of the levels after the first.
-  pub sparse-end : (old between new : ℕ) (r : Result Reply FarFault) → old ≤ between → between ≤ old + (length mesh.faces + sparse_cut_steps mesh (sparse_uv options mesh)) →
+  pub sparse-end : (old middle new : ℕ) (r : Result Reply FarFault) → old ≤ middle → middle ≤ old + (length mesh.faces + sparse_cut_steps mesh (sparse_uv options mesh)) →
       MatchResult r (λ reply. IsReplyTo (command.Sparse options) mesh reply) (λ fault. IsFound (fault_of fault) (refusal_of_mesh (command.Sparse options) mesh)) →
-      StepsTaken r between new 0 (sparse_later_steps options mesh) → IsAnswerTo (command.Sparse options) mesh r old new
-  sparse-end old between new r later few reply taken =
+      StepsTaken r middle new 0 (sparse_later_steps options mesh) → IsAnswerTo (command.Sparse options) mesh r old new
+  sparse-end old middle new r later few reply taken =
       record { reply = reply; steps = any-steps r old new 0 (step_limit (command.Sparse options) mesh) (omega (arith, later, taken.later)) (omega (arith, later, taken.later)) (omega (arith, few, taken.most)) }

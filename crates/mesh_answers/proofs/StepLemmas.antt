@@ -38,8 +38,8 @@ module _ (mesh : ObjMesh) (options : RefineOptions) where
   pub base-fits : (old new : ℕ) → new ≤ old + base_limit → new ≤ old + refine_limit options mesh
   base-fits old new h = omega (arith, h, limit-is)
 
-  pub positions-fit : (old between new : ℕ) → between ≤ old + base_limit → new ≤ between + position_limit → new ≤ old + refine_limit options mesh
-  positions-fit old between new g h = omega (arith, g, h, limit-is)
+  pub positions-fit : (old middle new : ℕ) → middle ≤ old + base_limit → new ≤ middle + position_limit → new ≤ old + refine_limit options mesh
+  positions-fit old middle new g h = omega (arith, g, h, limit-is)
 
   pub all-fit : (old first second new : ℕ) → first ≤ old + base_limit → second ≤ first + position_limit → new ≤ second + texture_limit → new ≤ old + refine_limit options mesh
   all-fit old first second new f g h = omega (arith, f, g, h, limit-is)

@@ -151,8 +151,8 @@ few-points mesh within =
 -- the boundary of the cut mesh is infinitely sharp
 sharp-cut : (mode : SeamMode) (mesh : ObjMesh) → IsManifold (cut_point_count mesh) (cut_faces mesh) → has_sharp_boundary (cut_level mode mesh) ≡ true
 sharp-cut mode mesh is =
-    sharp-from (cut_level mode mesh) (λ t alone.
-    ap is_infinite (cut-boundary mesh mode t (boundary-named (cut_level mode mesh) (all-simple (cut_point_count mesh) (cut_faces mesh) is) t alone) alone))
+    sharp-from (cut_level mode mesh) (λ t single.
+    ap is_infinite (cut-boundary mesh mode t (boundary-named (cut_level mode mesh) (all-simple (cut_point_count mesh) (cut_faces mesh) is) t single) single))
 
 -- The parts of a mesh's cut mesh: a level that can be refined, and its values, which are the channel of the definitions within the
 -- bounds.

@@ -3,7 +3,7 @@ use Rattle.far_words.specs.View.{sparse_of_code}
 use Rattle.mesh_answers.specs.Refusals.{IsFound, refusal_by}
 use Rattle.mesh_answers.specs.SparseLevels.{ArePointsLevels, sparse_position_faults}
 use Rattle.mesh_answers.proofs.RefusalLemmas.{handed-on}
-use Rattle.mesh_answers.proofs.SparseLemmas.{positions-alone}
+use Rattle.mesh_answers.proofs.SparseLemmas.{positions-untextured}
 use Rattle.mesh_answers.proofs.sparse_positions.sparse_points.Goals as goal
 
 pub returns-in_err-level-clause-levels : goal.returns-in_err-level-clause-levels
@@ -16,4 +16,4 @@ returns-in_err-level-clause-levels g c =
 pub returns-clause-levels : goal.returns-clause-levels
 returns-clause-levels g c =
     let accepted = c.in_ok-level.ensures.checked in
-    positions-alone (sparse_of_code c.args.options.now) c.args.mesh.now (record { manifold = accepted.manifold; small = accepted.small }) _ c.selected_points.ensures.levels
+    positions-untextured (sparse_of_code c.args.options.now) c.args.mesh.now (record { manifold = accepted.manifold; small = accepted.small }) _ c.selected_points.ensures.levels
