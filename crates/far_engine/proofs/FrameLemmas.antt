@@ -41,7 +41,7 @@ use Rattle.far_engine.specs.declared.frame_lines.FrameLines.{FrameLines}
 use Rattle.far_engine.proofs.RefusalLemmas.{IsOfLines, frames-refuses, not-memory}
 use Rattle.far_engine.proofs.InputLemmas.{all-taken}
 use Rattle.far_engine.proofs.StepLemmas.{HasFrameLines, has-last, takes-lines, takes-steps}
-use Rattle.far_engine.proofs.StreamLemmas.{all-told, split-more, begins-line, took-closed, took-pending, took-all, took-long, ends-failed, ends-long, ends-at-start, ends-at-line, ends-at-last, ends-after-last, ends-after-lines, written-more, rose-later, runs-end, runs-cut}
+use Rattle.far_engine.proofs.StreamLemmas.{all-known, split-more, begins-line, took-closed, took-pending, took-all, took-long, ends-failed, ends-long, ends-at-start, ends-at-line, ends-at-last, ends-after-last, ends-after-lines, written-more, rose-later, runs-end, runs-cut}
 
 -- a closed line and its line feed are passed
 pub line-shorter : {S : Type 0} (source : Source S) (t u : S) (old new : LineInput) → ReadsLine source old new t u (Ok Closed)
@@ -261,9 +261,9 @@ module _ {S K : Type 0} (source : Source S) (sink : Sink K) (from : Origin sourc
           → (after : List ℕ) × ((answer_of_lines (rule_of (Frames from.options)) byte_limit bytes).text ≡ is.text ++ (answer-of.text ++ after))
       begins bytes had good =
           let first = text_of_lines (is.lines ++ line ∷ []) in
-          let told = all-told (source.left from.first) (source.left u) (first ++ reader.pending) bytes moved.took.took had in
-          let found = begins-line byte_limit line (reader.pending ++ told.0) is.read.handled moved.plain good (omega (arith, moved.took.counted, length-append first reader.pending)) in
-          (found.0, ap (λ all. (answer_of_lines (rule_of (Frames from.options)) byte_limit all).text) (split-more first reader.pending told.0 bytes told.1) ∙ found.1)
+          let known = all-known (source.left from.first) (source.left u) (first ++ reader.pending) bytes moved.took.took had in
+          let found = begins-line byte_limit line (reader.pending ++ known.0) is.read.handled moved.plain good (omega (arith, moved.took.counted, length-append first reader.pending)) in
+          (found.0, ap (λ all. (answer_of_lines (rule_of (Frames from.options)) byte_limit all).text) (split-more first reader.pending known.0 bytes known.1) ∙ found.1)
 
       -- a closed line is answered
       pub stream-goes-on : (at2 : FrameLines) → at2.reader ≡ reader → at2.passed ≡ number → AnswersHere (Ok tt) → IsStreaming from u k' at2 posed' n'

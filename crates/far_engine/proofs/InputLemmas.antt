@@ -130,7 +130,7 @@ module _ {S : Type 0} (source : Ghosts S) (command : Command) (whole : ReadsWhol
     finds-by r old new reply taken = record {
       reply = reply;
       of_taken = (bytes, took, taken);
-      of_told = λ other e. subst (λ b. StepsTaken r old new (least_steps command b) (step_limit command b)) (same-bytes other e) taken;
+      of_known = λ other e. subst (λ b. StepsTaken r old new (least_steps command b) (step_limit command b)) (same-bytes other e) taken;
     }
 
   -- a fault of the source only
@@ -138,7 +138,7 @@ module _ {S : Type 0} (source : Ghosts S) (command : Command) (whole : ReadsWhol
   finds-fault fault steps is = record {
     reply = is;
     of_taken = (is.taken.0, is.taken.1, record { least = tt; most = omega arith; later = omega arith });
-    of_told = λ other e. record { least = tt; most = omega arith; later = omega arith };
+    of_known = λ other e. record { least = tt; most = omega arith; later = omega arith };
   }
 
 -- The text of a mesh, which was read to its end.

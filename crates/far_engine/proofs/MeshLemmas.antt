@@ -30,7 +30,7 @@ use Rattle.far_engine.specs.MeshPart.{IsMeshLines, IsWholeMesh, IsBeforeFrames}
 use Rattle.far_engine.proofs.InputLemmas.{all-taken}
 use Rattle.far_engine.proofs.RefusalLemmas.{IsOfLines, frames-refusal}
 use Rattle.far_engine.proofs.StepLemmas.{has-lines}
-use Rattle.far_engine.proofs.StreamLemmas.{all-told, took-closed, took-pending, took-all, took-long, ends-without-memory, ends-failed, ends-long, ends-at-line, ends-at-last, ends-after-last, ends-after-lines, rose-later}
+use Rattle.far_engine.proofs.StreamLemmas.{all-known, took-closed, took-pending, took-all, took-long, ends-without-memory, ends-failed, ends-long, ends-at-line, ends-at-last, ends-after-last, ends-after-lines, rose-later}
 
 one-more : (lines : List (List ℕ)) (line : List ℕ) → suc (length lines) ≡ length (lines ++ line ∷ [])
 one-more lines line = omega (arith, length-append lines (line ∷ []))
@@ -91,9 +91,9 @@ module _ {S : Type 0} (source : Source S) (options : FramesOptions) (s s' : S) (
                 (of-lines (obj_lines (text_of_lines lines)) (Some fault) e);
             no_memory = ends-without-memory source (rule_of (Frames options)) s s' [] (all ++ pending, took.took) took.later;
             of_taken = (all ++ pending, took.took, has-mesh pending);
-            of_told = λ bytes had.
-                let told = all-told (source.left s) (source.left s') (all ++ pending) bytes took.took had in
-                ap frames_lines (told.1 ∙ append_assoc all pending told.0) ∙ has-mesh (pending ++ told.0);
+            of_known = λ bytes had.
+                let known = all-known (source.left s) (source.left s') (all ++ pending) bytes took.took had in
+                ap frames_lines (known.1 ∙ append_assoc all pending known.0) ∙ has-mesh (pending ++ known.0);
             short = omega (arith, took.counted, length-append all pending, ap length (text-more lines line []), length-append (text_of_lines lines) (line ++ 10 ∷ []), length-append all []);
           };
           lines = lines ++ line ∷ [];
@@ -115,7 +115,7 @@ module _ {S : Type 0} (source : Source S) (options : FramesOptions) (s s' : S) (
       refused = λ fault e. ends (Some fault) e;
       no_memory = ends-without-memory source (rule_of (Frames options)) s s' [] (taken, took) later;
       of_taken = (taken, took, mesh);
-      of_told = λ all had. ap frames_lines (sym (all-taken (source.left s) (source.left s') taken all took dry had)) ∙ mesh;
+      of_known = λ all had. ap frames_lines (sym (all-taken (source.left s) (source.left s') taken all took dry had)) ∙ mesh;
       short = omega (arith, short, ap length is, length-append bytes rest);
     };
     ended = λ e. ends None e;

@@ -127,7 +127,7 @@ module _ {S K : Type 0} (source : Source S) (sink : Sink K) (options : FramesOpt
         (λ e. subst (λ m. n + start_least options.depth m ≤ n') text.mesh_is (least e))
         (subst (λ m. n' ≤ n + frames_limit options.depth m []) text.mesh_is (omega (arith, most)))
         read.of_taken.0 read.of_taken.1 (no-frame-lines read.of_taken.0 read.of_taken.2)
-        (λ all had. no-frame-lines all (read.of_told all had))
+        (λ all had. no-frame-lines all (read.of_known all had))
 
     -- the mesh is refused, or memory ran out
     start-ends : (fault : Fault) → IsFound fault (refusal_of_mesh (Stencils options.depth) mesh) → n ≤ n' → n' ≤ n + start_limit options.depth mesh

@@ -142,7 +142,7 @@ module _ {S K : Type 0} (source : Source S) (sink : Sink K) where
         least = found-steps k k' found result old new _ _ puts finds.of_taken.2;
       },
     );
-    of_told = λ bytes e. record { most = (finds.of_told bytes e).most; least = found-steps k k' found result old new _ _ puts (finds.of_told bytes e) };
+    of_known = λ bytes e. record { most = (finds.of_known bytes e).most; least = found-steps k k' found result old new _ _ puts (finds.of_known bytes e) };
   }
 
   -- a command that makes its mesh
@@ -235,7 +235,7 @@ module _ {S K : Type 0} (source : Source S) (sink : Sink K) where
       record {
         later = finds.steps.later;
         of_taken = ([], took-nothing (source.left s), within []);
-        of_told = λ bytes e. within bytes;
+        of_known = λ bytes e. within bytes;
       }
 
   -- a command runs as the kind that its name says
@@ -249,9 +249,9 @@ module _ {S K : Type 0} (source : Source S) (sink : Sink K) where
   -- a fault of the source is one of the command
   pub runs-fault : (named : Command) (command : ReadCommand) (s s' : S) (k : K) (r : Result (Unit {0}) FarFault) (fault : FarFault) → named ≡ Reads command → IsErr r → IsErrAnd r (λ g. g ≡ fault) →
       IsRefused source (Reads command) s s' (fault_of fault) → RunsCommand source sink named s s' k k (outcome_of r)
-  runs-fault named command s s' k (Ok tt) fault same err told is = absurd (cc)
-  runs-fault named command s s' k (Err other) fault same err told is =
-      runs-as named (Reads command) same s s' k k (Some (fault_of other)) (read-refused (Reads command) s s' k (fault_of other) (subst (λ f. IsRefused source (Reads command) s s' (fault_of f)) (sym told) is))
+  runs-fault named command s s' k (Ok tt) fault same err known is = absurd (cc)
+  runs-fault named command s s' k (Err other) fault same err known is =
+      runs-as named (Reads command) same s s' k k (Some (fault_of other)) (read-refused (Reads command) s s' k (fault_of other) (subst (λ f. IsRefused source (Reads command) s s' (fault_of f)) (sym known) is))
 
   pub fault-steps : (named : Command) (command : ReadCommand) (s s' : S) (r : Result (Unit {0}) FarFault) (fault : FarFault) (steps : ℕ) → named ≡ Reads command → IsErr r →
       IsRefused source (Reads command) s s' (fault_of fault) → TakesSteps source named s s' (outcome_of r) steps steps
@@ -260,7 +260,7 @@ module _ {S K : Type 0} (source : Source S) (sink : Sink K) where
       let within : (bytes : List ℕ) → IsWithinSteps (Reads command) bytes (Some (fault_of other)) steps steps =
       λ bytes. record { most = omega arith; least = λ e. absurd (cc) } in
       steps-as named (Reads command) same s s' (Some (fault_of other)) steps steps
-      (record { later = omega arith; of_taken = (is.taken.0, is.taken.1, within is.taken.0); of_told = λ bytes e. within bytes })
+      (record { later = omega arith; of_taken = (is.taken.0, is.taken.1, within is.taken.0); of_known = λ bytes e. within bytes })
 
   -- an answer to the mesh of a source is one of the command
   module _ (named : Command) (command : ReadCommand) (same : named ≡ Reads command) (s s' : S) (mesh : ObjMesh) (of : IsMeshOf source s s' mesh)

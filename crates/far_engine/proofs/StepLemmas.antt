@@ -16,7 +16,7 @@ use Rattle.stream_laws.proofs.WordLemmas.{first-words, last-words}
 use Rattle.stream_laws.proofs.FrameLemmas.{mesh-stays, frames-more, line-mesh_stays, line-frame}
 use Rattle.frame_answers.specs.StepCounts.{line_steps, start_least, frames_limit}
 use Rattle.far_engine.specs.StepCounts.{IsWithinSteps, TakesSteps, stream_limit}
-use Rattle.far_engine.proofs.StreamLemmas.{all-told}
+use Rattle.far_engine.proofs.StreamLemmas.{all-known}
 
 -- the bytes of an input have these lines of the mesh, and their frame lines begin with these
 pub record HasFrameLines (bytes : List ℕ) (mesh frames : List (List (List ℕ))) : Type 0 where
@@ -69,10 +69,10 @@ module _ {S : Type 0} (source : Source S) (options : FramesOptions) (s s' : S) (
   -- The steps are within the bounds, for the bytes that were taken and for all bytes.
   pub takes-steps : (taken : List ℕ) → Took (source.left s) (source.left s') taken → HasFrameLines taken mesh frames
       → ((all : List ℕ) → source.left s ≡ Some all → HasFrameLines all mesh frames) → TakesSteps source (Streams (Frames options)) s s' outcome old new
-  takes-steps taken took has told = record {
+  takes-steps taken took has known = record {
     later = later;
     of_taken = (taken, took, within taken has);
-    of_told = λ all had. within all (told all had);
+    of_known = λ all had. within all (known all had);
   }
 
 -- the bytes that were taken begin with lines, one of which is a line `frames`
@@ -84,9 +84,9 @@ takes-lines source options s s' lines more closed some took outcome old new late
     let taken = text_of_lines lines ++ more in
     takes-steps source options s s' (mesh_words lines) (frame_words lines) outcome old new later least most taken took (has-lines lines more closed some)
     (λ all had.
-    let told = all-told (source.left s) (source.left s') taken all took had in
-    subst (λ bytes. HasFrameLines bytes (mesh_words lines) (frame_words lines)) (sym (told.1 ∙ append_assoc (text_of_lines lines) more told.0))
-    (has-lines lines (more ++ told.0) closed some))
+    let known = all-known (source.left s) (source.left s') taken all took had in
+    subst (λ bytes. HasFrameLines bytes (mesh_words lines) (frame_words lines)) (sym (known.1 ∙ append_assoc (text_of_lines lines) more known.0))
+    (has-lines lines (more ++ known.0) closed some))
 
 -- no step was taken before the mesh was refined
 pub takes-none : {S : Type 0} (source : Source S) (options : FramesOptions) (s s' : S) (outcome : Option Fault) (old : ℕ) (taken : List ℕ)
@@ -94,4 +94,4 @@ pub takes-none : {S : Type 0} (source : Source S) (options : FramesOptions) (s s
 takes-none source options s s' outcome old taken took failed =
     let within : (bytes : List ℕ) → IsWithinSteps (Streams (Frames options)) bytes outcome old old =
     λ bytes. record { most = omega arith; least = λ e. absurd (failed e) } in
-    record { later = omega arith; of_taken = (taken, took, within taken); of_told = λ bytes e. within bytes }
+    record { later = omega arith; of_taken = (taken, took, within taken); of_known = λ bytes e. within bytes }

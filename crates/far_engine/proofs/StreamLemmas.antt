@@ -26,10 +26,10 @@ use Rattle.far_engine.proofs.InputLemmas.{all-taken}
 use Rattle.far_engine.proofs.RefusalLemmas.{IsOfLines, RefusesLines, input-is, input-not-read, input-not-write, input-not-memory, not-usage, not-read, not-long, not-write}
 
 -- all bytes begin with those that were taken
-pub all-told : (old new : Option (List ℕ)) (taken all : List ℕ) → Took old new taken → old ≡ Some all → (rest : List ℕ) × (all ≡ taken ++ rest)
-all-told (Some old) (Some new) taken all took had = let same : old ≡ all = cc in (new, sym same ∙ took)
-all-told (Some old) None taken all took had = absurd took
-all-told None new taken all took had = absurd (cc)
+pub all-known : (old new : Option (List ℕ)) (taken all : List ℕ) → Took old new taken → old ≡ Some all → (rest : List ℕ) × (all ≡ taken ++ rest)
+all-known (Some old) (Some new) taken all took had = let same : old ≡ all = cc in (new, sym same ∙ took)
+all-known (Some old) None taken all took had = absurd took
+all-known None new taken all took had = absurd (cc)
 
 -- bytes after others, joined from two parts
 pub split-more : (first pending rest : List ℕ) (bytes : List ℕ) → bytes ≡ (first ++ pending) ++ rest → bytes ≡ first ++ (pending ++ rest)
@@ -148,10 +148,10 @@ module _ {S : Type 0} (source : Source S) (rule : LineRule) (s s' : S) where
         let first = text_of_lines lines in
         record {
           answer = λ bytes had.
-              let told = all-told (source.left s) (source.left s') taken bytes took had in
-              let cut : bytes ≡ first ++ (pending ++ byte ∷ told.0) =
-              split-more first (pending ++ byte ∷ []) told.0 bytes told.1 ∙ ap (λ tail. first ++ tail) (append_assoc pending (byte ∷ []) told.0) in
-              inl (too-long byte_limit bytes pending byte told.0 handled plain full cut good);
+              let known = all-known (source.left s) (source.left s') taken bytes took had in
+              let cut : bytes ≡ first ++ (pending ++ byte ∷ known.0) =
+              split-more first (pending ++ byte ∷ []) known.0 bytes known.1 ∙ ap (λ tail. first ++ tail) (append_assoc pending (byte ∷ []) known.0) in
+              inl (too-long byte_limit bytes pending byte known.0 handled plain full cut good);
           so_far = λ e. absurd (cc);
           read = λ e. absurd (cc);
           whole = λ e. absurd (cc);
@@ -169,8 +169,8 @@ module _ {S : Type 0} (source : Source S) (rule : LineRule) (s s' : S) where
         let taken = text_of_lines lines ++ pending in
         ends-of-lines text (Some fault) of
         (λ bytes had.
-        let told = all-told (source.left s) (source.left s') taken bytes read.took had in
-        pending-refused byte_limit bytes told.0 handled is plain some (split-more (text_of_lines lines) pending told.0 bytes told.1) (omega (arith, read.counted)))
+        let known = all-known (source.left s) (source.left s') taken bytes read.took had in
+        pending-refused byte_limit bytes known.0 handled is plain some (split-more (text_of_lines lines) pending known.0 bytes known.1) (omega (arith, read.counted)))
         (λ e. absurd (cc)) (taken, read.took) read.later
 
     -- a closed line is refused
@@ -181,23 +181,23 @@ module _ {S : Type 0} (source : Source S) (rule : LineRule) (s s' : S) where
         let all = text_of_lines (lines ++ line ∷ []) in
         ends-of-lines text (Some fault) of
         (λ bytes had.
-        let told = all-told (source.left s) (source.left s') (all ++ pending) bytes read.took had in
+        let known = all-known (source.left s) (source.left s') (all ++ pending) bytes read.took had in
         let fits : length (first ++ (line ++ 10 ∷ [])) ≤ byte_limit = omega (arith, read.counted, length-append all pending, ap length (text-more lines line []), length-append all []) in
-        line-refused byte_limit bytes line (pending ++ told.0) fault handled plain is (split-more all pending told.0 bytes told.1 ∙ sym (text-more lines line (pending ++ told.0))) fits)
+        line-refused byte_limit bytes line (pending ++ known.0) fault handled plain is (split-more all pending known.0 bytes known.1 ∙ sym (text-more lines line (pending ++ known.0))) fits)
         (λ e. absurd (cc)) (all ++ pending, read.took) read.later
 
     module _ (line : List ℕ) (read : TookAll source s s' lines line) where
-      told-all : (bytes : List ℕ) → source.left s ≡ Some bytes → bytes ≡ text_of_lines lines ++ line
-      told-all bytes had = sym (all-taken (source.left s) (source.left s') (text_of_lines lines ++ line) bytes read.took read.dry had)
+      whole-known : (bytes : List ℕ) → source.left s ≡ Some bytes → bytes ≡ text_of_lines lines ++ line
+      whole-known bytes had = sym (all-taken (source.left s) (source.left s') (text_of_lines lines ++ line) bytes read.took read.dry had)
 
       fits-all : (bytes : List ℕ) → source.left s ≡ Some bytes → length bytes ≤ byte_limit
-      fits-all bytes had = omega (arith, ap length (told-all bytes had), read.short)
+      fits-all bytes had = omega (arith, ap length (whole-known bytes had), read.short)
 
       -- a last line without a line feed is refused
       pub ends-at-last : (fault : Fault) → 0 < length line → rule.line lines line ≡ refused fault → IsOfLines (Some fault) → IsEnd source rule s s' text (Some fault)
       ends-at-last fault some is of =
           ends-of-lines text (Some fault) of
-          (λ bytes had. last-line-refused byte_limit bytes line fault handled read.plain some is (told-all bytes had) (fits-all bytes had))
+          (λ bytes had. last-line-refused byte_limit bytes line fault handled read.plain some is (whole-known bytes had) (fits-all bytes had))
           (λ e. absurd (cc)) (text_of_lines lines ++ line, read.took) read.later
 
       -- a last line adds a text, and the end decides
@@ -205,14 +205,14 @@ module _ {S : Type 0} (source : Source S) (rule : LineRule) (s s' : S) where
           → rule.end (lines ++ line ∷ []) ≡ answer_with [] refusal → IsOfLines refusal → IsEnd source rule s s' (text ++ more) refusal
       ends-after-last more refusal some added end of =
           ends-of-lines (text ++ more) refusal of
-          (λ bytes had. ended-unclosed byte_limit bytes line more refusal handled read.plain some (told-all bytes had) (fits-all bytes had) added end)
+          (λ bytes had. ended-unclosed byte_limit bytes line more refusal handled read.plain some (whole-known bytes had) (fits-all bytes had) added end)
           (λ e. read.dry) (text_of_lines lines ++ line, read.took) read.later
 
     -- the end decides after closed lines
     pub ends-after-lines : (read : TookAll source s s' lines []) (refusal : Option Fault) → rule.end lines ≡ answer_with [] refusal → IsOfLines refusal → IsEnd source rule s s' text refusal
     ends-after-lines read refusal end of =
         ends-of-lines text refusal of
-        (λ bytes had. ended byte_limit bytes refusal handled (told-all [] read bytes had ∙ append-nil (text_of_lines lines)) (fits-all [] read bytes had) end)
+        (λ bytes had. ended byte_limit bytes refusal handled (whole-known [] read bytes had ∙ append-nil (text_of_lines lines)) (fits-all [] read bytes had) end)
         (λ e. read.dry) (text_of_lines lines ++ [], read.took) read.later
 
 -- nothing was written

@@ -68,7 +68,7 @@ pub record FindsReply {S : Type 0} (source : Ghosts S) (command : Command) (s s'
   pub reply : MatchResult result (λ reply. IsReady source command s s' reply) (λ fault. IsRefused source command s s' (fault_of fault))
   pub of_taken : (bytes : List ℕ) × Took (source.left s) (source.left s') bytes
       × StepsTaken result old new (least_steps command bytes) (step_limit command bytes)
-  pub of_told : (bytes : List ℕ) → source.left s ≡ Some bytes
+  pub of_known : (bytes : List ℕ) → source.left s ≡ Some bytes
       → StepsTaken result old new (least_steps command bytes) (step_limit command bytes)
 
 -- the reply was written into a sink; or this is the fault, and the sink was not called

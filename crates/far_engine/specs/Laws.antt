@@ -24,7 +24,7 @@ pub record RunWithoutFaults {S K : Type 0} (source : Source S) (sink : Sink K) :
   pub after : K
   pub outcome : Option Fault
   pub runs : Runs source sink words first last before after outcome
-  pub told : source.left first ≡ Some bytes
+  pub known : source.left first ≡ Some bytes
   pub no_read_failed : Rose (source.faults first) (source.faults last) → ⊥
   pub no_write_failed : Rose (sink.faults before) (sink.faults after) → ⊥
 

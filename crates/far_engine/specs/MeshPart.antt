@@ -33,7 +33,7 @@ pub record IsMeshRead {S : Type 0} (source : Source S) (options : FramesOptions)
   pub no_memory : IsEnd source (rule_of (Frames options)) s s' [] (Some Memory)
   -- these are the lines of the mesh in the bytes that were taken, and in all bytes
   pub of_taken : (taken : List ℕ) × Took (source.left s) (source.left s') taken × (frames_lines taken ≡ obj_lines bytes)
-  pub of_told : (all : List ℕ) → source.left s ≡ Some all → frames_lines all ≡ obj_lines bytes
+  pub of_known : (all : List ℕ) → source.left s ≡ Some all → frames_lines all ≡ obj_lines bytes
   pub short : length bytes ≤ 2 ^ 28
 
 -- The input ended with the lines of the mesh, or with a line `frames` behind them.

@@ -45,7 +45,7 @@ pub record IsWithinSteps (command : Command) (bytes : List ℕ) (outcome : Optio
 pub record TakesSteps {S : Type 0} (source : Ghosts S) (command : Command) (s s' : S) (outcome : Option Fault) (old new : ℕ) : Type 0 where
   pub later : old ≤ new
   pub of_taken : (bytes : List ℕ) × Took (source.left s) (source.left s') bytes × IsWithinSteps command bytes outcome old new
-  pub of_told : (bytes : List ℕ) → source.left s ≡ Some bytes → IsWithinSteps command bytes outcome old new
+  pub of_known : (bytes : List ℕ) → source.left s ≡ Some bytes → IsWithinSteps command bytes outcome old new
 
 -- words that are not a command take no steps
 pub record RunSteps {S : Type 0} (source : Ghosts S) (words : List (List ℕ)) (s s' : S) (outcome : Option Fault) (old new : ℕ) : Type 0 where
