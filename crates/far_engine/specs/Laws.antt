@@ -29,7 +29,7 @@ pub record RunWithoutFaults {S K : Type 0} (source : Source S) (sink : Sink K) :
   pub no_write_failed : Rose (sink.faults before) (sink.faults after) → ⊥
 
 -- a run of words and bytes in memory that never fails, whose sink has capacity for the text and one byte more
-pub record RunInRoom (source : Source (List ℕ)) (sink : Sink SureOutput) : Type 0 where
+pub record RunInMemory (source : Source (List ℕ)) (sink : Sink SureOutput) : Type 0 where
   pub words : List (List ℕ)
   pub bytes : List ℕ
   pub left : List ℕ

@@ -1,5 +1,5 @@
 use Rattle.far_engine.proofs.LawLemmas.{answered-without-faults}
-use Rattle.far_engine.proofs.laws.faults_alone_keep_the_answer.Goals as goal
+use Rattle.far_engine.proofs.laws.runs_without_faults_give_the_answer.Goals as goal
 
 pub returns : goal.returns
 returns g c = λ run.

@@ -1,7 +1,7 @@
 use Rattle.std.proofs.Common.{refl}
 use Rattle.far_model.specs.Answer.{answer}
 use Rattle.far_engine.proofs.LawLemmas.{answered-by, cut-at, no-write, not-to-zero, rose-at}
-use Rattle.far_engine.proofs.laws.room_is_enough.Goals as goal
+use Rattle.far_engine.proofs.laws.runs_in_memory_give_the_answer.Goals as goal
 
 pub returns : goal.returns
 returns c = λ run.
