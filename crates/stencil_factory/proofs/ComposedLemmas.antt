@@ -143,14 +143,14 @@ module _ (level : Level) (table : Table) where
           omega (arith, few, entries-less (p + 1), rows-entries (take (p + 1) masks) (rows ++ row ∷ []) next-rows, sum_by-append (λ (r : Row). length r.shares) rows (row ∷ []))
 
       -- If `AreFew` holds after this row, the first rows with this row have at most 2^27 entries.
-      pub few-entries : (count room : ℕ) → count ≡ length row.shares → AreFew (mask_entries level table masks) (entries_of rows + count) room
+      pub few-entries : (count spare : ℕ) → count ≡ length row.shares → AreFew (mask_entries level table masks) (entries_of rows + count) spare
           → entries_of rows + length row.shares ≤ 2 ^ 27
-      few-entries count room same (inl within) = omega (arith, same, within)
-      few-entries count room same (inr few) = next-entries few
+      few-entries count spare same (inl within) = omega (arith, same, within)
+      few-entries count spare same (inr few) = next-entries few
 
       -- If the first rows with this row have at most 2^27 entries, the first rows are fewer than 2^27.
-      pub room-count : entries_of rows + length row.shares ≤ 2 ^ 27 → length rows < 2 ^ 27
-      room-count few = omega (arith, few, row-some level table _ row is, rows-few (take p masks) rows are)
+      pub few-rows : entries_of rows + length row.shares ≤ 2 ^ 27 → length rows < 2 ^ 27
+      few-rows few = omega (arith, few, row-some level table _ row is, rows-few (take p masks) rows are)
 
     -- rows for all masks
     pub are-rows : (p : ℕ) (composed : Table) → length masks ≤ p → composed.controls ≡ table.controls

@@ -151,18 +151,18 @@ above place (suc n ∷ sums) = ap (λ b. b && list_all (λ t. nat_lt 0 t.weight)
     some n = grind (arith, nat_tests)
 
 -- The weights that a caller gave, each added at its point.
-module _ (count : ℕ) (mask told : Mask) (are : AreWeightsOf count mask told) (raw : List Share) (raw_are : terms_of_shares raw ≡ told.terms) where
+module _ (count : ℕ) (mask given : Mask) (are : AreWeightsOf count mask given) (raw : List Share) (raw_are : terms_of_shares raw ≡ given.terms) where
   -- each has a place
-  pub told-inside : AllByRecursion (λ share. share.0 < count) raw
-  told-inside = each raw (subst (AllByRecursion (λ t. IsPointAmong count t.source)) (sym raw_are) (recursion_from_All (λ (t : model.Term). IsPointAmong count t.source) told.terms are.points))
+  pub given-inside : AllByRecursion (λ share. share.0 < count) raw
+  given-inside = each raw (subst (AllByRecursion (λ t. IsPointAmong count t.source)) (sym raw_are) (recursion_from_All (λ (t : model.Term). IsPointAmong count t.source) given.terms are.points))
     where
       each : (shares : List Share) → AllByRecursion (λ t. IsPointAmong count t.source) (terms_of_shares shares) → AllByRecursion (λ share. share.0 < count) shares
       each [] h = tt
       each (share ∷ shares) h = (h.0, each shares h.1)
 
   -- The weights sum to the denominator.
-  pub told-total : total_of raw ≡ told.denominator
-  told-total = each raw ∙ ap total_weight raw_are ∙ are.total
+  pub given-total : total_of raw ≡ given.denominator
+  given-total = each raw ∙ ap total_weight raw_are ∙ are.total
     where
       each : (shares : List Share) → total_of shares ≡ total_weight (terms_of_shares shares)
       each [] = refl
@@ -171,13 +171,13 @@ module _ (count : ℕ) (mask told : Mask) (are : AreWeightsOf count mask told) (
 
   module _ (sums : List ℕ) (added : sums ≡ added_shares 1 raw (replicate count 0)) where
     abbrev joined : Mask
-    joined = mask_of_shares told.denominator (shares_from 0 sums)
+    joined = mask_of_shares given.denominator (shares_from 0 sums)
 
     abbrev zeros : List ℕ
     zeros = replicate count 0
 
     placed : AllByRecursion (λ share. share.0 < length zeros) raw
-    placed = subst (λ n. AllByRecursion (λ (share : Share). share.0 < n) raw) (sym (length-replicate count 0)) told-inside
+    placed = subst (λ n. AllByRecursion (λ (share : Share). share.0 < n) raw) (sym (length-replicate count 0)) given-inside
 
     weights : (source : SourcePoint) → weight_in joined.terms source ≡ weight_in mask.terms source
     weights (OfPoint v) =
@@ -192,14 +192,14 @@ module _ (count : ℕ) (mask told : Mask) (are : AreWeightsOf count mask told) (
     same : HaveSameWeights joined mask
     same = record { denominator = are.same.denominator; weights = weights }
 
-    whole : total_weight joined.terms ≡ told.denominator
-    whole = same-total joined mask same ∙ sym (same-total told mask are.same) ∙ are.total
+    whole : total_weight joined.terms ≡ given.denominator
+    whole = same-total joined mask same ∙ sym (same-total given mask are.same) ∙ are.total
 
     length-sums : length sums ≡ count
     length-sums = ap length added ∙ length-added_shares 1 raw (replicate count 0) ∙ length-replicate count 0
 
-    pub are-joined : (shares : List Share) → shares ≡ shares_from 0 sums → AreJoined count mask told.denominator shares
-    are-joined shares is = subst (AreJoined count mask told.denominator) (sym is) (record {
+    pub are-joined : (shares : List Share) → shares ≡ shares_from 0 sums → AreJoined count mask given.denominator shares
+    are-joined shares is = subst (AreJoined count mask given.denominator) (sym is) (record {
       same = record {
         same = same;
         joined = both _ _ (once 0 sums) (above 0 sums);

@@ -15,7 +15,7 @@ pub mod SurveyLemmas
 pub mod WidthLemmas
 pub mod ComposedLemmas
 pub mod MarkLemmas
-pub mod MetLemmas
+pub mod PlaceSetLemmas
 pub mod NameLemmas
 pub mod JoinLemmas
 pub mod WeighingLemmas

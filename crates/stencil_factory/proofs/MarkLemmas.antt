@@ -170,8 +170,8 @@ module _ (table : Table) (is : IsTable table) where
         omega (arith, fresh, none-marked most old old-below, ap (count_by (nat_eq (most + 1))) e, kept, sized)
 
 -- The points that the body reads from the set are the points that the mask names.
-pub read-named : (level : Level) (mask : Mask) (met read : List ℕ) → read ≡ met → ((v : ℕ) → is_among met v ≡ is_named level mask v) → (v : ℕ) → is_among read v ≡ is_named level mask v
-read-named level mask met read e named v = ap (λ l. is_among l v) e ∙ named v
+pub read-named : (level : Level) (mask : Mask) (members read : List ℕ) → read ≡ members → ((v : ℕ) → is_among members v ≡ is_named level mask v) → (v : ℕ) → is_among read v ≡ is_named level mask v
+read-named level mask members read e named v = ap (λ l. is_among l v) e ∙ named v
 
 -- a support has no more controls than there are
 pub support-few : (controls : ℕ) (support : SourcePoint → List ℕ) (mask : Mask) → length (mask_support controls support mask) ≤ controls

@@ -26,10 +26,10 @@ use Rattle.mask_rules.proofs.EdgeLemmas.{face-mask}
 use Rattle.child_masks.specs.Masks.{mask_from}
 use Rattle.child_masks.proofs.AmongLemmas.{part-sources}
 use Rattle.stencil_factory.specs.Weights.{names_point, is_named}
-use Rattle.stencil_factory.specs.Met.{Places, with_places}
+use Rattle.stencil_factory.specs.PlaceSet.{Places, with_places}
 use Rattle.stencil_factory.specs.Named.{points_of, with_terms, CanName, CanNameTerm, AreNamed}
 use Rattle.stencil_factory.proofs.AddedLemmas.{first-and-others, none}
-use Rattle.stencil_factory.proofs.MetLemmas.{count-places, mark-places, among-places}
+use Rattle.stencil_factory.proofs.PlaceSetLemmas.{count-places, mark-places, among-places}
 use Rattle.stencil_factory.proofs.OriginLemmas.{of-point}
 
 -- the first term of some, and the others
@@ -72,13 +72,13 @@ source-among level v (OfPoint u) = turned v u
 source-among level v (OfFace f) = refl
 
 among-terms : (level : Level) (v : ℕ) (terms : List model.Term) (places : Places)
-    → is_among (with_terms level terms places).met v ≡ (is_among places.met v || list_any (λ t. names_point level v t.source) terms)
-among-terms level v [] places = sym (or-false (is_among places.met v))
+    → is_among (with_terms level terms places).members v ≡ (is_among places.members v || list_any (λ t. names_point level v t.source) terms)
+among-terms level v [] places = sym (or-false (is_among places.members v))
 among-terms level v (t ∷ terms) places =
     let rest = list_any (λ (s : model.Term). names_point level v s.source) terms in
     among-terms level v terms (with_places (points_of level t.source) places)
-    ∙ ap (λ b. b || rest) (among-places v (points_of level t.source) places ∙ ap (λ b. is_among places.met v || b) (source-among level v t.source))
-    ∙ or_assoc (is_among places.met v) (names_point level v t.source) rest
+    ∙ ap (λ b. b || rest) (among-places v (points_of level t.source) places ∙ ap (λ b. is_among places.members v || b) (source-among level v t.source))
+    ∙ or_assoc (is_among places.members v) (names_point level v t.source) rest
 
 -- A mask of the code names the points that the defined mask names.
 pub names-same : (level : Level) (mask defined : Mask) (v : ℕ) → IsMask mask defined → is_joined defined ≡ true → is_named level mask v ≡ is_named level defined v
@@ -86,16 +86,16 @@ names-same level mask defined v is joined =
     list_any-IsPermutation (λ (t : model.Term). names_point level v t.source) mask.terms defined.terms (same_weights-permuted mask defined is.joined joined is.same)
 
 -- An empty set has no member.
-pub none-before : (places : Places) (v : ℕ) → places.met ≡ [] → is_among places.met v ≡ false
+pub none-before : (places : Places) (v : ℕ) → places.members ≡ [] → is_among places.members v ≡ false
 none-before places v none = ap (λ l. is_among l v) none
 
 pub terms-named : (level : Level) (scheme : Scheme) (origin : PointOrigin) (mask : Mask) → IsMask mask (mask_from level scheme origin) → is_joined (mask_from level scheme origin) ≡ true
-    → (terms : List model.Term) → terms ≡ mask.terms → (old new : Places) → old.count ≡ level.point_count → old.met ≡ [] → new ≡ with_terms level terms old → AreNamed level (mask_from level scheme origin) old.mark new
+    → (terms : List model.Term) → terms ≡ mask.terms → (old new : Places) → old.count ≡ level.point_count → old.members ≡ [] → new ≡ with_terms level terms old → AreNamed level (mask_from level scheme origin) old.mark new
 terms-named level scheme origin mask is joined terms terms_are old new count clear added = record {
   count = ap (λ (p : Places). p.count) added ∙ count-terms level terms old ∙ count;
   mark = ap (λ (p : Places). p.mark) added ∙ mark-terms level terms old;
   named = λ v.
-      ap (λ (p : Places). is_among p.met v) added ∙ among-terms level v terms old
+      ap (λ (p : Places). is_among p.members v) added ∙ among-terms level v terms old
       ∙ ap (λ b. b || list_any (λ (t : model.Term). names_point level v t.source) terms) (none-before old v clear)
       ∙ ap (list_any (λ (t : model.Term). names_point level v t.source)) terms_are
       ∙ names-same level mask (mask_from level scheme origin) v is joined;
@@ -115,7 +115,7 @@ module _ (t : Topology) (is : IsTopology t) where
       let over = all-at (list_all (λ v. nat_lt v t.level.point_count)) t.level.polygons f [] below (first-of-six _ _ _ _ _ _ is.formed) in
       ltb-true _ _ (AllPass-from_list_all (λ v. nat_lt v t.level.point_count) (polygon_at t.level.polygons f) over c d inside)
 
-  pub face-named : (f : ℕ) (corners : List ℕ) (old new : Places) → f < length t.level.polygons → corners ≡ polygon_at t.level.polygons f → old.count ≡ t.level.point_count → old.met ≡ [] → new ≡ with_places corners old
+  pub face-named : (f : ℕ) (corners : List ℕ) (old new : Places) → f < length t.level.polygons → corners ≡ polygon_at t.level.polygons f → old.count ≡ t.level.point_count → old.members ≡ [] → new ≡ with_places corners old
       → AreNamed t.level (face_mask t.level f) old.mark new
   face-named f corners old new below corners_are count clear added =
       let polygon = polygon_at t.level.polygons f in
@@ -123,7 +123,7 @@ module _ (t : Topology) (is : IsTopology t) where
         count = ap (λ (p : Places). p.count) added ∙ count-places corners old ∙ count;
         mark = ap (λ (p : Places). p.mark) added ∙ mark-places corners old;
         named = λ v.
-            ap (λ (p : Places). is_among p.met v) added ∙ among-places v corners old ∙ ap (λ b. b || is_among corners v) (none-before old v clear)
+            ap (λ (p : Places). is_among p.members v) added ∙ among-places v corners old ∙ ap (λ b. b || is_among corners v) (none-before old v clear)
             ∙ ap (λ l. is_among l v) corners_are ∙ corners-named t.level v polygon
             ∙ names-same t.level (corners_over polygon (length polygon)) (face_mask t.level f) v (face-mask t.level f (length polygon) is.simple below refl) (joined-corners polygon);
       }
@@ -154,7 +154,7 @@ module _ (t : Topology) (is : IsTopology t) where
 
 -- The set that the mask of an origin gives is the set of the child point with that origin.
 pub named-since : {E : Type 0} (r : Result (Unit {0}) E) (level : Level) (scheme : Scheme) (origin own : PointOrigin) → origin ≡ own
-    → (old start : Places) → start ≡ record { count = old.count; mark = old.mark + 1; met = [] } → (new : Places)
+    → (old start : Places) → start ≡ record { count = old.count; mark = old.mark + 1; members = [] } → (new : Places)
     → OnOk r (AreNamed level (mask_from level scheme origin) start.mark new) → OnOk r (AreNamed level (mask_from level scheme own) (old.mark + 1) new)
 named-since r level scheme origin own is old start started new named =
     of-point r (λ mask. AreNamed level mask (old.mark + 1) new) level scheme origin own is

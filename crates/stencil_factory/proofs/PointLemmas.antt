@@ -17,11 +17,11 @@ use Rattle.stencil_factory.specs.Rows.{support_of}
 use Rattle.stencil_factory.specs.Scratch.{added_shares}
 use Rattle.stencil_factory.specs.Weights.{names_point, is_named}
 use Rattle.stencil_factory.specs.Flat.{flat_shares, CanAddAll, IsWeighed}
-use Rattle.stencil_factory.specs.Met.{Places, with_places}
+use Rattle.stencil_factory.specs.PlaceSet.{Places, with_places}
 use Rattle.stencil_factory.specs.Named.{AreNamed}
 use Rattle.stencil_factory.specs.Joined.{terms_of_shares, mask_of_shares, amounts_of, AreJoined}
 use Rattle.stencil_factory.proofs.WeighingLemmas.{same-multiple}
-use Rattle.stencil_factory.proofs.MetLemmas.{count-places, mark-places, among-places}
+use Rattle.stencil_factory.proofs.PlaceSetLemmas.{count-places, mark-places, among-places}
 use Rattle.stencil_factory.proofs.NameLemmas.{names-same, none-before}
 use Rattle.stencil_factory.proofs.WeightLemmas.{IsKnown}
 use Rattle.stencil_factory.proofs.KnownLemmas.{given-can, given-weighed}
@@ -50,14 +50,14 @@ module _ (level : Level) (mask : Mask) (q : ℕ) (shares : List Share) (are : Ar
   joined-names v = points-named level v shares ∙ names-same level (mask_of_shares q shares) mask v are.same are.joined
 
   -- The set after all points of the weights were added.
-  pub joined-named : (points : List ℕ) → ((v : ℕ) → is_among points v ≡ is_among (support_of shares) v) → (old start new : Places) → old.count ≡ level.point_count → start ≡ record { count = old.count; mark = old.mark + 1; met = [] }
+  pub joined-named : (points : List ℕ) → ((v : ℕ) → is_among points v ≡ is_among (support_of shares) v) → (old start new : Places) → old.count ≡ level.point_count → start ≡ record { count = old.count; mark = old.mark + 1; members = [] }
       → new ≡ with_places points start → AreNamed level mask (old.mark + 1) new
   joined-named points points_are old start new count started added = record {
     count = ap (λ (p : Places). p.count) added ∙ count-places points start ∙ ap (λ (p : Places). p.count) started ∙ count;
     mark = ap (λ (p : Places). p.mark) added ∙ mark-places points start ∙ ap (λ (p : Places). p.mark) started;
     named = λ v.
-        ap (λ (p : Places). is_among p.met v) added ∙ among-places v points start
-        ∙ ap (λ b. b || is_among points v) (none-before start v (ap (λ (p : Places). p.met) started))
+        ap (λ (p : Places). is_among p.members v) added ∙ among-places v points start
+        ∙ ap (λ b. b || is_among points v) (none-before start v (ap (λ (p : Places). p.members) started))
         ∙ points_are v ∙ joined-names v;
   }
 

@@ -17,7 +17,7 @@ use Rattle.stencil_apply.specs.Table.{Share, total_of}
 use Rattle.stencil_factory.specs.Rows.{support_of}
 use Rattle.stencil_factory.specs.Scratch.{added_shares, shares_from, sum_of, AreSharesOf}
 use Rattle.stencil_factory.specs.Flat.{CanAddAll, IsWeighed}
-use Rattle.stencil_factory.specs.Met.{Places, with_places}
+use Rattle.stencil_factory.specs.PlaceSet.{Places, with_places}
 use Rattle.stencil_factory.specs.Named.{AreNamed}
 use Rattle.stencil_factory.specs.MaskRows.{AreWeightsOf}
 use Rattle.stencil_factory.specs.Joined.{terms_of_shares, amounts_of, weighing, AreJoined}
@@ -26,7 +26,7 @@ use Rattle.stencil_factory.proofs.AddedLemmas.{first-and-others, can-first, can-
 use Rattle.stencil_factory.proofs.ScratchLemmas.{sum-added_shares, some-added_shares}
 use Rattle.stencil_factory.proofs.RowLemmas.{zero-at}
 use Rattle.stencil_factory.proofs.WeightLemmas.{sums-themselves}
-use Rattle.stencil_factory.proofs.JoinLemmas.{told-inside, are-joined, place-weight, sum-weight}
+use Rattle.stencil_factory.proofs.JoinLemmas.{given-inside, are-joined, place-weight, sum-weight}
 use Rattle.stencil_factory.proofs.WeighingLemmas.{weighing-above, weighing-all, weighing-added, among-sums, same-added, weighing-some, weighing-none}
 use Rattle.stencil_factory.proofs.PointLemmas.{joined-names, joined-named, joined-den, joined-positive, joined-can, joined-weighed}
 use Rattle.stencil_factory.proofs.FoundLemmas.{common-positive}
@@ -95,7 +95,7 @@ module _ (level : Level) (mask put : Mask) (are : AreWeightsOf level.point_count
   is-joined = are-joined count mask put are raw raw_are sums refl joined refl
 
   raw-inside : AllByRecursion (λ share. share.0 < count) raw
-  raw-inside = told-inside count mask put are raw raw_are
+  raw-inside = given-inside count mask put are raw raw_are
 
   -- each has a place
   pub put-inside : (n : ℕ) → n ≡ count → All (λ share. share.0 < n) raw
@@ -121,7 +121,7 @@ module _ (level : Level) (mask put : Mask) (are : AreWeightsOf level.point_count
   put-names v = among v ∙ joined-names level mask put.denominator joined is-joined v
 
   -- The set after all points of the weights were added.
-  pub put-named : (old start new : Places) → old.count ≡ count → start ≡ record { count = old.count; mark = old.mark + 1; met = [] }
+  pub put-named : (old start new : Places) → old.count ≡ count → start ≡ record { count = old.count; mark = old.mark + 1; members = [] }
       → new ≡ with_places (support_of (weighing raw)) start → AreNamed level mask (old.mark + 1) new
   put-named = joined-named level mask put.denominator joined is-joined (support_of (weighing raw)) among
 

@@ -9,8 +9,12 @@ use Rattle.subdiv_model.specs.Support.{mask_support, source_support}
 use Rattle.subdiv_model.specs.Channel.{number_bound, entry_bound}
 use Rattle.level_topology.specs.Child.{PointOrigin}
 use Rattle.child_masks.specs.Masks.{masks_from, values_from, HasNoTransition, IsFirstTransition, IsFirstDenominator, dens_from}
+use Rattle.child_masks.specs.Survey.{IsSurveyFault}
+use Rattle.child_masks.specs.declared.fault.SurveyFault.{SurveyFault}
 use Rattle.stencil_apply.specs.Table.{Table}
 use Rattle.stencil_factory.specs.Rows.{supports_of, dens_of, row_values, AreSameValues}
+use Rattle.stencil_factory.specs.MaskRows.{IsRowFault}
+use Rattle.stencil_factory.specs.declared.row_fault.RowFault.{RowFault}
 use Rattle.stencil_factory.specs.declared.fault.TableFault.{TableFault}
 use Rattle.stencil_factory.specs.declared.fault.TableFault.TheVariants.{Transition, Denominator, TooManyEntries, Memory}
 
@@ -56,3 +60,13 @@ IsTableFault level scheme origins table Memory = Unit {0}
 abbrev pub IsTableComposition : Level → Scheme → List PointOrigin → Table → Result Table TableFault → Type 0
 IsTableComposition level scheme origins table result =
     MatchResult result (λ composed. IsComposed level scheme origins table composed) (λ fault. IsTableFault level scheme origins table fault)
+
+-- Where the survey of a step has its fault, the step has the given one.
+abbrev pub IsFaultOfSurvey : SurveyFault → TableFault → Type 0
+IsFaultOfSurvey survey fault = (level : Level) (scheme : Scheme) (origins : List PointOrigin) (table : Table)
+    → IsSurveyFault level scheme origins (dens_of table) survey → IsTableFault level scheme origins table fault
+
+-- Where no weight of a step is refused and its rows have their fault, the step has the given one.
+abbrev pub IsFaultOfRows : RowFault → TableFault → Type 0
+IsFaultOfRows rows fault = (level : Level) (scheme : Scheme) (origins : List PointOrigin) (table : Table) → HasNoTransition level scheme origins
+    → IsRowFault level (masks_from level scheme origins) table rows → IsTableFault level scheme origins table fault

@@ -6,7 +6,7 @@ pub mod Weights
 pub mod Flat
 pub mod Composing
 pub mod Marks
-pub mod Met
+pub mod PlaceSet
 pub mod Named
 pub mod MaskRows
 pub mod Joined

@@ -1,5 +1,5 @@
 -- What `compose_masks` returns: the table of masks over the points of a level, one row for each mask, or the first fault.
-use Rattle.std.specs.Prelude.{ℕ, ◌≡◌, ◌+◌, ◌<◌, ◌≤◌, ℤ, ◌⊎◌, Bool, true, false, List, [], length, map, get_or, IsTrue, Result, MatchResult}
+use Rattle.std.specs.Prelude.{ℕ, ◌≡◌, ◌+◌, ◌<◌, ◌≤◌, ℤ, ◌⊎◌, Bool, true, false, List, [], length, map, get_or, IsTrue, Option, MatchOption, Result, MatchResult}
 use Rattle.std.specs.List.{All, sum_by}
 use Rattle.subdiv_model.specs.Level.{Level}
 use Rattle.subdiv_model.specs.Value.{Value}
@@ -54,9 +54,14 @@ pub record AreRowDenominators (level : Level) (table : Table) (masks : List Mask
 abbrev pub mask_entries : Level → Table → List Mask → ℕ
 mask_entries level table masks = sum_by length (mask_supports level table masks)
 
+-- The number of entries of all rows, at most 2^27, or nothing if they are more.
+abbrev pub IsEntryCount : Level → List Mask → Table → Option ℕ → Type 0
+IsEntryCount level masks table count =
+    MatchOption count (entry_bound < mask_entries level table masks) (λ entries. (entries ≡ mask_entries level table masks) × (entries ≤ entry_bound))
+
 -- The entries of the first rows and the spare capacity sum to at most 2^27, or the entries of all rows do.
 abbrev pub AreFew : ℕ → ℕ → ℕ → Type 0
-AreFew all entries room = (entries + room ≤ entry_bound) ⊎ (all ≤ entry_bound)
+AreFew all entries spare = (entries + spare ≤ entry_bound) ⊎ (all ≤ entry_bound)
 
 -- `composed` is the table of the masks. Each row has its mask's common denominator and the control points that the mask depends on.
 -- For all control numbers a row gives the value that the mask gives from the values of the rows of `table`.

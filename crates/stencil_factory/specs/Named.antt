@@ -5,7 +5,7 @@ use Rattle.subdiv_model.specs.Polygons.{is_among, polygon_at}
 use Rattle.subdiv_model.specs.Level.{Level}
 use Rattle.subdiv_model.specs.Mask.{SourcePoint, OfPoint, OfFace, Term, Mask}
 use Rattle.stencil_factory.specs.Weights.{is_named}
-use Rattle.stencil_factory.specs.Met.{Places, with_places}
+use Rattle.stencil_factory.specs.PlaceSet.{Places, with_places}
 
 -- The points that a source names: the point, or the corners of the face.
 abbrev pub points_of : Level → SourcePoint → List ℕ
@@ -30,4 +30,4 @@ CanNameTerm level count t = CanName level count t.source
 pub record AreNamed (level : Level) (mask : Mask) (own : ℕ) (places : Places) : Type 0 where
   pub count : places.count ≡ level.point_count
   pub mark : places.mark ≡ own
-  pub named : (v : ℕ) → is_among places.met v ≡ is_named level mask v
+  pub named : (v : ℕ) → is_among places.members v ≡ is_named level mask v

@@ -1,7 +1,7 @@
 //! Implements `RowMasks` for a refinement step: one mask for each point of the child.
 
-use crate::met::Met;
 use crate::name::name_point;
+use crate::place_set::PlaceSet;
 use crate::rows::RowMasks;
 use crate::scratch::Scratch;
 use crate::weigh::weigh_mask;
@@ -22,7 +22,7 @@ pub(crate) struct ChildRows<'a> {
 }
 
 impl RowMasks for ChildRows<'_> {
-    type Room = MadeMask;
+    type Buffer = MadeMask;
 
     ghost use Rattle.mask_rules.specs.View.{scheme_of};
     ghost use Rattle.child_masks.specs.Masks.{CanRefine, masks_from};
@@ -37,9 +37,9 @@ impl RowMasks for ChildRows<'_> {
 
     ghost IsFound = { λ r dens. IsSurvey r.parent.now (scheme_of r.scheme) r.child.now.origins dens r.survey.now };
 
-    ghost IsClear = { λ r room. Unit {0} };
+    ghost IsClear = { λ r buffer. Unit {0} };
 
-    fn room(&self, alloc: Global) -> Result<MadeMask, Memory> {
+    fn buffer(&self, alloc: Global) -> Result<MadeMask, Memory> {
         Ok(MadeMask::new())
     }
 
@@ -48,15 +48,15 @@ impl RowMasks for ChildRows<'_> {
         self.child.level().points()
     }
 
-    fn name(&self, row: u32, room: &mut MadeMask, met: &mut Met) -> Result<(), Memory> {
+    fn name(&self, row: u32, buffer: &mut MadeMask, members: &mut PlaceSet) -> Result<(), Memory> {
         name_point(
             self.parent,
             self.child,
             row,
             self.scheme,
             self.survey,
-            room,
-            met,
+            buffer,
+            members,
         )
     }
 
@@ -65,7 +65,7 @@ impl RowMasks for ChildRows<'_> {
         row: u32,
         den: u128,
         dens: &[u128],
-        room: &mut MadeMask,
+        buffer: &mut MadeMask,
         scratch: &mut Scratch<T>,
     ) -> Result<(), Memory> {
         weigh_mask(
@@ -75,7 +75,7 @@ impl RowMasks for ChildRows<'_> {
             self.scheme,
             self.survey,
             den,
-            room,
+            buffer,
             dens,
             scratch,
         )

@@ -26,7 +26,7 @@ use stencil_apply::{StencilTable, TableBuilder};
 // The buffers for one row: its mask, the weights of the level's points, and the entries of the control points.
 // `counted` is true once the entries of all rows were counted and are at most 2^27.
 #[derive(Drop)]
-struct Room<T: Natural, M> {
+struct Buffers<T: Natural, M> {
     mask: M,
     points: Scratch<T>,
     weights: Entries<T>,
@@ -35,13 +35,13 @@ struct Room<T: Natural, M> {
     counted: bool,
 }
 
-impl<T: Natural, M: Drop> Room<T, M> {
+impl<T: Natural, M: Drop> Buffers<T, M> {
     // Returns buffers for a level with `points` points over `controls` control points. All sums are 0.
-    fn new(alloc: Global, mask: M, points: u32, controls: u32) -> Result<Room<T, M>, Memory>
-        ensures buffers { IfOk result (λ room. (room.mask ≡ mask) × (room.points ≡ replicate points 0) × (room.controls ≡ replicate controls 0)) }
-        ensures counted { IfOk result (λ room. room.counted ≡ false) }
+    fn new(alloc: Global, mask: M, points: u32, controls: u32) -> Result<Buffers<T, M>, Memory>
+        ensures clear { IfOk result (λ buffers. (buffers.mask ≡ mask) × (buffers.points ≡ replicate points 0) × (buffers.controls ≡ replicate controls 0)) }
+        ensures counted { IfOk result (λ buffers. buffers.counted ≡ false) }
     {
-        Ok(Room {
+        Ok(Buffers {
             mask,
             points: Scratch::new(alloc, points)?,
             weights: Entries::new(alloc),
@@ -110,13 +110,13 @@ fn sum_rows<T: Natural>(
     Ok(())
 }
 
-// Replaces `room.entries` by the entries of row `row`, over the denominator `den`.
+// Replaces `buffers.entries` by the entries of row `row`, over the denominator `den`.
 fn compose_row<T: Natural, R: RowMasks>(
     table: &StencilTable,
     rows: &R,
     row: u32,
     den: u128,
-    room: &mut Room<T, R::Room>,
+    buffers: &mut Buffers<T, R::Buffer>,
 ) -> Result<(), Memory>
     requires ready { R.IsReady rows.now }
     requires found { R.IsFound rows.now (dens_of table.now) }
@@ -126,20 +126,25 @@ fn compose_row<T: Natural, R: RowMasks>(
     requires positive { 0 < den }
     requires short { den ≤ number_bound }
     requires fits { den ≤ T.most }
-    requires clear { R.IsClear rows.now room.old.mask }
-    requires points { room.old.points ≡ replicate (R.level rows.now).point_count 0 }
-    requires controls { room.old.controls ≡ replicate table.now.controls 0 }
-    ensures clear { OnOk result (R.IsClear rows.now room.new.mask) }
-    ensures points { OnOk result (room.new.points ≡ replicate (R.level rows.now).point_count 0) }
-    ensures controls { OnOk result (room.new.controls ≡ replicate table.now.controls 0) }
-    ensures counted { OnOk result (room.new.counted ≡ room.old.counted) }
-    ensures row { OnOk result (IsComposedRow (R.level rows.now) table.now (mask_at (R.masks rows.now) row) (record { den = den; shares = room.new.entries })) }
+    requires clear { R.IsClear rows.now buffers.old.mask }
+    requires points { buffers.old.points ≡ replicate (R.level rows.now).point_count 0 }
+    requires controls { buffers.old.controls ≡ replicate table.now.controls 0 }
+    ensures clear { OnOk result (R.IsClear rows.now buffers.new.mask) }
+    ensures points { OnOk result (buffers.new.points ≡ replicate (R.level rows.now).point_count 0) }
+    ensures controls { OnOk result (buffers.new.controls ≡ replicate table.now.controls 0) }
+    ensures counted { OnOk result (buffers.new.counted ≡ buffers.old.counted) }
+    ensures row { OnOk result (IsComposedRow (R.level rows.now) table.now (mask_at (R.masks rows.now) row) (record { den = den; shares = buffers.new.entries })) }
 {
     table.facts();
     let dens = table.denominators();
-    rows.weigh(row, den, dens, &mut room.mask, &mut room.points)?;
-    room.points.take_unsorted(&mut room.weights)?;
-    sum_rows(table, &room.weights, &mut room.controls, &mut room.entries)
+    rows.weigh(row, den, dens, &mut buffers.mask, &mut buffers.points)?;
+    buffers.points.take_unsorted(&mut buffers.weights)?;
+    sum_rows(
+        table,
+        &buffers.weights,
+        &mut buffers.controls,
+        &mut buffers.entries,
+    )
 }
 
 /// Appends a row with these entries over the denominator `den`.
@@ -153,7 +158,7 @@ pub(crate) fn put_entries<T: Natural>(
     requires rows { length builder.old.table.rows < 2 ^ 27 }
     requires entries { entries_of builder.old.table.rows + length entries.now ≤ 2 ^ 27 }
     ensures added { OnOk result (builder.new.table ≡ with_row (record { den = den; shares = entries.now }) builder.old.table) }
-    ensures room { OnOk result (builder.new.room_entries ≡ builder.old.room_entries - length entries.now) }
+    ensures capacity { OnOk result (builder.new.room_entries ≡ builder.old.room_entries - length entries.now) }
 {
     builder.add_parts(den, entries.indices(), entries.numerators())
 }
@@ -197,7 +202,7 @@ fn put_row<T: Natural, R: RowMasks>(
     rows: &R,
     row: u32,
     den: u128,
-    room: &mut Room<T, R::Room>,
+    buffers: &mut Buffers<T, R::Buffer>,
     builder: &mut TableBuilder,
 ) -> Result<bool, Memory>
     requires ready { R.IsReady rows.now }
@@ -209,27 +214,27 @@ fn put_row<T: Natural, R: RowMasks>(
     requires short { den ≤ number_bound }
     requires fits { den ≤ T.most }
     requires few { AreFew (mask_entries (R.level rows.now) table.now (R.masks rows.now)) (entries_of builder.old.table.rows) builder.old.room_entries }
-    requires counted { room.old.counted ≡ true → mask_entries (R.level rows.now) table.now (R.masks rows.now) ≤ entry_bound }
-    requires clear { R.IsClear rows.now room.old.mask }
-    requires points { room.old.points ≡ replicate (R.level rows.now).point_count 0 }
-    requires controls { room.old.controls ≡ replicate table.now.controls 0 }
+    requires counted { buffers.old.counted ≡ true → mask_entries (R.level rows.now) table.now (R.masks rows.now) ≤ entry_bound }
+    requires clear { R.IsClear rows.now buffers.old.mask }
+    requires points { buffers.old.points ≡ replicate (R.level rows.now).point_count 0 }
+    requires controls { buffers.old.controls ≡ replicate table.now.controls 0 }
     requires same { builder.old.table.controls ≡ table.now.controls }
     requires done { AreComposedRows (R.level rows.now) table.now (take row (R.masks rows.now)) builder.old.table.rows }
-    ensures clear { OnOk result (R.IsClear rows.now room.new.mask) }
-    ensures points { OnOk result (room.new.points ≡ replicate (R.level rows.now).point_count 0) }
-    ensures controls { OnOk result (room.new.controls ≡ replicate table.now.controls 0) }
-    ensures counted { OnOk result (room.new.counted ≡ true → mask_entries (R.level rows.now) table.now (R.masks rows.now) ≤ entry_bound) }
+    ensures clear { OnOk result (R.IsClear rows.now buffers.new.mask) }
+    ensures points { OnOk result (buffers.new.points ≡ replicate (R.level rows.now).point_count 0) }
+    ensures controls { OnOk result (buffers.new.controls ≡ replicate table.now.controls 0) }
+    ensures counted { OnOk result (buffers.new.counted ≡ true → mask_entries (R.level rows.now) table.now (R.masks rows.now) ≤ entry_bound) }
     ensures same { OnOk result (builder.new.table.controls ≡ table.now.controls) }
     ensures few { IfOk result (λ put. put ≡ true → AreFew (mask_entries (R.level rows.now) table.now (R.masks rows.now)) (entries_of builder.new.table.rows) builder.new.room_entries) }
     ensures done { IfOk result (λ put. put ≡ true → AreComposedRows (R.level rows.now) table.now (take (row + 1) (R.masks rows.now)) builder.new.table.rows) }
     ensures many { IfOk result (λ put. put ≡ false → entry_bound < mask_entries (R.level rows.now) table.now (R.masks rows.now)) }
 {
-    compose_row(table, rows, row, den, room)?;
-    let count = room.entries.indices().len() as u64;
-    if !can_add(alloc, table, rows, builder, count, &mut room.counted)? {
+    compose_row(table, rows, row, den, buffers)?;
+    let count = buffers.entries.indices().len() as u64;
+    if !can_add(alloc, table, rows, builder, count, &mut buffers.counted)? {
         return Ok(false);
     }
-    put_entries(den, &room.entries, builder)?;
+    put_entries(den, &buffers.entries, builder)?;
     Ok(true)
 }
 
@@ -239,7 +244,7 @@ fn put_rows<T: Natural, R: RowMasks>(
     table: &StencilTable,
     rows: &R,
     dens: &[u128],
-    room: &mut Room<T, R::Room>,
+    buffers: &mut Buffers<T, R::Buffer>,
     builder: &mut TableBuilder,
 ) -> Result<bool, Memory>
     requires ready { R.IsReady rows.now }
@@ -247,17 +252,17 @@ fn put_rows<T: Natural, R: RowMasks>(
     requires each { length table.now.rows ≡ (R.level rows.now).point_count }
     requires dens { AreRowDenominators (R.level rows.now) table.now (R.masks rows.now) dens.now }
     requires fits { All (λ den. den ≤ T.most) dens.now }
-    requires clear { R.IsClear rows.now room.old.mask }
-    requires points { room.old.points ≡ replicate (R.level rows.now).point_count 0 }
-    requires controls { room.old.controls ≡ replicate table.now.controls 0 }
-    requires counted { room.old.counted ≡ false }
+    requires clear { R.IsClear rows.now buffers.old.mask }
+    requires points { buffers.old.points ≡ replicate (R.level rows.now).point_count 0 }
+    requires controls { buffers.old.controls ≡ replicate table.now.controls 0 }
+    requires counted { buffers.old.counted ≡ false }
     requires none { builder.old.table ≡ no_rows table.now.controls }
-    requires room { builder.old.room_entries ≤ entry_bound }
+    requires capacity { builder.old.room_entries ≤ entry_bound }
     ensures { IfOk result (AreAdded (R.level rows.now) (R.masks rows.now) table.now builder.new.table) }
 {
     for row in 0..rows.count() {
         let den = dens[row as usize];
-        if !put_row(alloc, table, rows, row, den, room, builder)? {
+        if !put_row(alloc, table, rows, row, den, buffers, builder)? {
             return Ok(false);
         }
     }
@@ -278,12 +283,12 @@ fn put_rows_as<T: Natural, R: RowMasks>(
     requires dens { AreRowDenominators (R.level rows.now) table.now (R.masks rows.now) dens.now }
     requires fits { All (λ den. den ≤ T.most) dens.now }
     requires none { builder.old.table ≡ no_rows table.now.controls }
-    requires room { builder.old.room_entries ≤ entry_bound }
+    requires capacity { builder.old.room_entries ≤ entry_bound }
     ensures { IfOk result (AreAdded (R.level rows.now) (R.masks rows.now) table.now builder.new.table) }
 {
-    let made = rows.room(alloc)?;
-    let mut room = Room::<T, R::Room>::new(alloc, made, table.rows(), table.controls())?;
-    put_rows(alloc, table, rows, dens, &mut room, builder)
+    let made = rows.buffer(alloc)?;
+    let mut buffers = Buffers::<T, R::Buffer>::new(alloc, made, table.rows(), table.controls())?;
+    put_rows(alloc, table, rows, dens, &mut buffers, builder)
 }
 
 // Composes and appends all rows, with sums of the given width, which holds each denominator.
@@ -302,7 +307,7 @@ fn put_rows_in<R: RowMasks>(
     requires dens { AreRowDenominators (R.level rows.now) table.now (R.masks rows.now) dens.now }
     requires fits { All (λ den. den ≤ most_of width) dens.now }
     requires none { builder.old.table ≡ no_rows table.now.controls }
-    requires room { builder.old.room_entries ≤ entry_bound }
+    requires capacity { builder.old.room_entries ≤ entry_bound }
     ensures { IfOk result (AreAdded (R.level rows.now) (R.masks rows.now) table.now builder.new.table) }
 {
     match width {
@@ -329,7 +334,7 @@ fn width_of_rows(dens: &[u128]) -> Width
     width_of(greatest_denominator(dens))
 }
 
-/// Returns the table of the rows, whose common denominators are `dens`. The table starts with capacity for `room` entries.
+/// Returns the table of the rows, whose common denominators are `dens`. The table starts with capacity for `capacity` entries.
 ///
 /// If the rows need more, this counts the entries of all rows once, and the table grows. The error is
 /// [`RowFault::TooManyEntries`] if they have more than 2^27 entries together, or [`RowFault::Memory`].
@@ -338,20 +343,20 @@ pub(crate) fn compose_rows<R: RowMasks>(
     table: &StencilTable,
     rows: &R,
     dens: &[u128],
-    room: u64,
+    capacity: u64,
 ) -> Result<StencilTable, RowFault>
     requires ready { R.IsReady rows.now }
     requires found { R.IsFound rows.now (dens_of table.now) }
     requires each { length table.now.rows ≡ (R.level rows.now).point_count }
     requires dens { AreRowDenominators (R.level rows.now) table.now (R.masks rows.now) dens.now }
-    requires room { room ≤ entry_bound }
+    requires capacity { capacity ≤ entry_bound }
     ensures { IsRowComposition (R.level rows.now) (R.masks rows.now) table.now result }
 {
     table.facts();
     let width = width_of_rows(dens);
     // Each row has at least one entry, so a table within its bound has at most 2^27 rows.
     let most = rows.count().min(ENTRY_BOUND as u32);
-    let mut builder = TableBuilder::with_room(alloc, table.controls(), most, room, width)?;
+    let mut builder = TableBuilder::with_room(alloc, table.controls(), most, capacity, width)?;
     if !put_rows_in(alloc, table, rows, dens, width, &mut builder)? {
         return Err(RowFault::TooManyEntries);
     }

@@ -1,14 +1,13 @@
 //! Counts the entries of composed rows without computing their numerators.
 
-ghost use Rattle.std.specs.Prelude.{◌≡◌, ◌+◌, ◌^◌, ◌<◌, ◌≤◌, [], nat_eq, length, replicate, set, IfOk, OnOk, MatchOption};
+ghost use Rattle.std.specs.Prelude.{◌≡◌, ◌+◌, ◌^◌, ◌<◌, ◌≤◌, [], nat_eq, length, replicate, set, IfOk, OnOk};
 ghost use Rattle.std.specs.List.{All, count_by};
-ghost use Rattle.subdiv_model.specs.Channel.{entry_bound};
 ghost use Rattle.subdiv_model.specs.Support.{mask_support, source_support};
 ghost use Rattle.stencil_factory.specs.Rows.{supports_of};
 ghost use Rattle.stencil_factory.specs.Marks.{marked_all, marked_rows, AreMarks};
-ghost use Rattle.stencil_factory.specs.MaskRows.{mask_at, mask_entries};
+ghost use Rattle.stencil_factory.specs.MaskRows.{mask_at, IsEntryCount};
 
-use crate::met::Met;
+use crate::place_set::PlaceSet;
 use crate::rows::RowMasks;
 use ratio128::Memory;
 use ratio128::limits::ENTRY_BOUND;
@@ -20,18 +19,18 @@ use stencil_apply::StencilTable;
 #[derive(Drop)]
 struct Marks<M> {
     mask: M,
-    points: Met,
+    points: PlaceSet,
     marks: Vec<u32>,
 }
 
 impl<M: Drop> Marks<M> {
     // Returns buffers with `controls` marks of 0 and an empty set of the `points` points of the level.
     fn new(alloc: Global, mask: M, points: u32, controls: u32) -> Result<Marks<M>, Memory>
-        ensures { IfOk result (λ room. (room.mask ≡ mask) × (room.points ≡ record { count = points; mark = 1; met = [] }) × (room.marks.items ≡ replicate controls 0)) }
+        ensures { IfOk result (λ buffers. (buffers.mask ≡ mask) × (buffers.points ≡ record { count = points; mark = 1; members = [] }) × (buffers.marks.items ≡ replicate controls 0)) }
     {
         Ok(Marks {
             mask,
-            points: Met::new(alloc, points)?,
+            points: PlaceSet::new(alloc, points)?,
             marks: vec![in alloc; 0; controls as usize]?,
         })
     }
@@ -85,27 +84,27 @@ fn count_row<R: RowMasks>(
     table: &StencilTable,
     rows: &R,
     row: u32,
-    room: &mut Marks<R::Room>,
+    buffers: &mut Marks<R::Buffer>,
 ) -> Result<u64, Memory>
     requires ready { R.IsReady rows.now }
     requires each { length table.now.rows ≡ (R.level rows.now).point_count }
     requires known { row < length (R.masks rows.now) }
     requires few { row < 2 ^ 30 }
-    requires clear { R.IsClear rows.now room.old.mask }
-    requires points { room.old.points.count ≡ (R.level rows.now).point_count }
-    requires round { room.old.points.mark ≡ row + 1 }
-    requires marks { AreMarks table.now.controls row room.old.marks.items }
-    ensures clear { OnOk result (R.IsClear rows.now room.new.mask) }
-    ensures points { OnOk result (room.new.points.count ≡ (R.level rows.now).point_count) }
-    ensures round { OnOk result (room.new.points.mark ≡ row + 2) }
-    ensures marks { OnOk result (AreMarks table.now.controls (row + 1) room.new.marks.items) }
-    ensures count { IfOk result (λ count. count ≡ length (mask_support table.now.controls
+    requires clear { R.IsClear rows.now buffers.old.mask }
+    requires points { buffers.old.points.count ≡ (R.level rows.now).point_count }
+    requires round { buffers.old.points.mark ≡ row + 1 }
+    requires marks { AreMarks table.now.controls row buffers.old.marks.items }
+    ensures clear { OnOk result (R.IsClear rows.now buffers.new.mask) }
+    ensures points { OnOk result (buffers.new.points.count ≡ (R.level rows.now).point_count) }
+    ensures round { OnOk result (buffers.new.points.mark ≡ row + 2) }
+    ensures marks { OnOk result (AreMarks table.now.controls (row + 1) buffers.new.marks.items) }
+    ensures count { IfOk result (λ n. n ≡ length (mask_support table.now.controls
         (source_support table.now.controls (R.level rows.now) (supports_of table.now)) (mask_at (R.masks rows.now) row))) }
 {
     table.facts();
-    rows.name(row, &mut room.mask, &mut room.points)?;
-    let points = room.points.places();
-    Ok(mark_rows(table, points, &mut room.marks, row + 1))
+    rows.name(row, &mut buffers.mask, &mut buffers.points)?;
+    let points = buffers.points.places();
+    Ok(mark_rows(table, points, &mut buffers.marks, row + 1))
 }
 
 /// Returns how many entries all rows have together, or `None` if these are more than 2^27.
@@ -116,16 +115,14 @@ pub(crate) fn count_entries<R: RowMasks>(
 ) -> Result<Option<u64>, Memory>
     requires ready { R.IsReady rows.now }
     requires each { length table.now.rows ≡ (R.level rows.now).point_count }
-    ensures { IfOk result (λ count. MatchOption count
-        (entry_bound < mask_entries (R.level rows.now) table.now (R.masks rows.now))
-        (λ entries. (entries ≡ mask_entries (R.level rows.now) table.now (R.masks rows.now)) × (entries ≤ entry_bound))) }
+    ensures { IfOk result (IsEntryCount (R.level rows.now) (R.masks rows.now) table.now) }
 {
     table.facts();
-    let made = rows.room(alloc)?;
-    let mut room = Marks::new(alloc, made, table.rows(), table.controls())?;
+    let made = rows.buffer(alloc)?;
+    let mut buffers = Marks::new(alloc, made, table.rows(), table.controls())?;
     let mut count = 0;
     for row in 0..rows.count() {
-        count += count_row(table, rows, row, &mut room)?;
+        count += count_row(table, rows, row, &mut buffers)?;
         if count > ENTRY_BOUND {
             return Ok(None);
         }

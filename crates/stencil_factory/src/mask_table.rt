@@ -69,7 +69,7 @@ fn denominators_of_rows<M: PointMasks>(
 }
 
 // Returns the capacity to start with: twice the entries of the table, at most 2^27. Rows of neighbours share control points.
-fn room_for(table: &StencilTable) -> u64
+fn capacity_for(table: &StencilTable) -> u64
     ensures { result ≤ entry_bound }
 {
     table.entries().saturating_mul(2).min(ENTRY_BOUND)
@@ -85,7 +85,13 @@ fn compose_surveyed<M: PointMasks>(
     ensures { IsRowComposition (M.level masks.now) (M.masks masks.now) table.now result }
 {
     let dens = denominators_of_rows(alloc, table, masks)?;
-    compose_rows(alloc, table, &PointRows { masks }, &dens, room_for(table))
+    compose_rows(
+        alloc,
+        table,
+        &PointRows { masks },
+        &dens,
+        capacity_for(table),
+    )
 }
 
 /// Returns the table of the masks, one row for each mask, over the control points of `table`.

@@ -6,34 +6,34 @@ ghost use Rattle.level_topology.specs.Child.{FromVertex};
 ghost use Rattle.mask_rules.specs.View.{scheme_of, source_of, terms_of};
 ghost use Rattle.child_masks.specs.Masks.{CanRefine, mask_from};
 ghost use Rattle.child_masks.specs.MaskOf.{AreKeptFor};
-ghost use Rattle.stencil_factory.specs.Met.{with_places};
+ghost use Rattle.stencil_factory.specs.PlaceSet.{with_places};
 ghost use Rattle.stencil_factory.specs.Named.{points_of, with_terms, CanName, CanNameTerm, AreNamed};
 
-use crate::met::Met;
+use crate::place_set::PlaceSet;
 use child_masks::{PointMask, Survey};
 use level_topology::{Child, Level};
 use mask_rules::{At, MadeMask, Scheme, Term};
 use ratio128::Memory;
 
 // Adds the points that a term names to the set.
-fn name_term(met: &mut Met, parent: &Level, term: &Term) -> Result<(), Memory>
-    requires { CanName parent.now.level met.old.count (source_of term.now.at) }
-    ensures { OnOk result (met.new ≡ with_places (points_of parent.now.level (source_of term.now.at)) met.old) }
+fn name_term(members: &mut PlaceSet, parent: &Level, term: &Term) -> Result<(), Memory>
+    requires { CanName parent.now.level members.old.count (source_of term.now.at) }
+    ensures { OnOk result (members.new ≡ with_places (points_of parent.now.level (source_of term.now.at)) members.old) }
 {
     match term.at {
-        At::Point(v) => met.add(v),
-        At::FacePoint(f) => met.add_all(parent.face_vertices(f)),
+        At::Point(v) => members.add(v),
+        At::FacePoint(f) => members.add_all(parent.face_vertices(f)),
     }
 }
 
 // Adds the points that the terms name to the set.
-fn name_terms(met: &mut Met, parent: &Level, terms: &[Term]) -> Result<(), Memory>
-    requires { AllByRecursion (CanNameTerm parent.now.level met.old.count) (terms_of terms.now) }
-    ensures { OnOk result (met.new ≡ with_terms parent.now.level (terms_of terms.now) met.old) }
+fn name_terms(members: &mut PlaceSet, parent: &Level, terms: &[Term]) -> Result<(), Memory>
+    requires { AllByRecursion (CanNameTerm parent.now.level members.old.count) (terms_of terms.now) }
+    ensures { OnOk result (members.new ≡ with_terms parent.now.level (terms_of terms.now) members.old) }
 {
     let mut rest = terms;
     while let [term, others @ ..] = rest {
-        name_term(met, parent, term)?;
+        name_term(members, parent, term)?;
         rest = others;
     }
     Ok(())
@@ -47,20 +47,20 @@ pub(crate) fn name_point(
     scheme: Scheme,
     survey: &Survey,
     made: &mut MadeMask,
-    met: &mut Met,
+    members: &mut PlaceSet,
 ) -> Result<(), Memory>
     requires child { CanRefine parent.now child.now (scheme_of scheme) }
     requires known { p < length child.now.origins }
     requires masks { AreKeptFor parent.now (scheme_of scheme) child.now.origins survey.now.masks }
-    requires count { met.old.count ≡ parent.now.level.point_count }
-    requires room { met.old.mark + 1 < 2 ^ 32 }
-    ensures { OnOk result (AreNamed parent.now.level (mask_from parent.now.level (scheme_of scheme) (get_or child.now.origins p (FromVertex 0))) (met.old.mark + 1) met.new) }
+    requires count { members.old.count ≡ parent.now.level.point_count }
+    requires mark { members.old.mark + 1 < 2 ^ 32 }
+    ensures { OnOk result (AreNamed parent.now.level (mask_from parent.now.level (scheme_of scheme) (get_or child.now.origins p (FromVertex 0))) (members.old.mark + 1) members.new) }
 {
     parent.facts();
     child.facts();
-    met.start();
+    members.start();
     match survey.mask(parent, child, p, scheme, made) {
-        PointMask::Corners(f) => met.add_all(parent.face_vertices(f)),
-        PointMask::Terms(mask) => name_terms(met, parent, mask.terms(made)),
+        PointMask::Corners(f) => members.add_all(parent.face_vertices(f)),
+        PointMask::Terms(mask) => name_terms(members, parent, mask.terms(made)),
     }
 }

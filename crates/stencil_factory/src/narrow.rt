@@ -23,18 +23,18 @@ const WORD_BOUND: u128 = u64::MAX as u128;
 
 // The buffers for one row: the weights of the level's points and the entries of the control points.
 #[derive(Drop)]
-struct NarrowRoom {
+struct NarrowBuffers {
     weights: PointWeights,
     controls: Scratch<u64>,
     entries: Entries<u64>,
 }
 
-impl NarrowRoom {
+impl NarrowBuffers {
     // Returns buffers for rows over `controls` control points. All sums are 0.
-    fn new(alloc: Global, controls: u32) -> Result<NarrowRoom, Memory>
-        ensures { IfOk result (λ room. room.controls ≡ replicate controls 0) }
+    fn new(alloc: Global, controls: u32) -> Result<NarrowBuffers, Memory>
+        ensures { IfOk result (λ buffers. buffers.controls ≡ replicate controls 0) }
     {
-        Ok(NarrowRoom {
+        Ok(NarrowBuffers {
             controls: Scratch::new(alloc, controls)?,
             weights: PointWeights::new(alloc),
             entries: Entries::new(alloc),
@@ -42,29 +42,29 @@ impl NarrowRoom {
     }
 }
 
-// Replaces `room.entries` by the entries of row `row`. Returns the row's denominator, or 0 if it has more than 64 bits.
+// Replaces `buffers.entries` by the entries of row `row`. Returns the row's denominator, or 0 if it has more than 64 bits.
 fn compose_row<M: PointMasks>(
     table: &StencilTable,
     masks: &M,
     row: u32,
-    room: &mut NarrowRoom,
+    buffers: &mut NarrowBuffers,
 ) -> Result<u128, Memory>
     requires each { length table.now.rows ≡ (M.level masks.now).point_count }
     requires known { row < length (M.masks masks.now) }
-    requires clear { room.old.controls ≡ replicate table.now.controls 0 }
-    ensures clear { OnOk result (room.new.controls ≡ replicate table.now.controls 0) }
-    ensures row { IfOk result (λ den. 0 < den → IsComposedRow (M.level masks.now) table.now (mask_at (M.masks masks.now) row) (record { den = den; shares = room.new.entries })) }
+    requires clear { buffers.old.controls ≡ replicate table.now.controls 0 }
+    ensures clear { OnOk result (buffers.new.controls ≡ replicate table.now.controls 0) }
+    ensures row { IfOk result (λ den. 0 < den → IsComposedRow (M.level masks.now) table.now (mask_at (M.masks masks.now) row) (record { den = den; shares = buffers.new.entries })) }
 {
     table.facts();
-    masks.put(row, &mut room.weights)?;
-    let weights = room.weights.weights();
+    masks.put(row, &mut buffers.weights)?;
+    let weights = buffers.weights.weights();
     let multiple = multiple_of_weights(weights, table.denominators());
-    let den = times_within(room.weights.denominator(), multiple, WORD_BOUND).unwrap_or(0);
+    let den = times_within(buffers.weights.denominator(), multiple, WORD_BOUND).unwrap_or(0);
     if den == 0 {
         return Ok(0);
     }
-    add_weighted_rows(table, weights, multiple, &mut room.controls)?;
-    room.controls.take(&mut room.entries)?;
+    add_weighted_rows(table, weights, multiple, &mut buffers.controls)?;
+    buffers.controls.take(&mut buffers.entries)?;
     Ok(den)
 }
 
@@ -73,26 +73,26 @@ fn put_row<M: PointMasks>(
     table: &StencilTable,
     masks: &M,
     row: u32,
-    room: &mut NarrowRoom,
+    buffers: &mut NarrowBuffers,
     builder: &mut TableBuilder,
 ) -> Result<bool, Memory>
     requires each { length table.now.rows ≡ (M.level masks.now).point_count }
     requires known { row < length (M.masks masks.now) }
-    requires clear { room.old.controls ≡ replicate table.now.controls 0 }
+    requires clear { buffers.old.controls ≡ replicate table.now.controls 0 }
     requires same { builder.old.table.controls ≡ table.now.controls }
     requires few { entries_of builder.old.table.rows + builder.old.room_entries ≤ 2 ^ 27 }
     requires done { AreComposedRows (M.level masks.now) table.now (take row (M.masks masks.now)) builder.old.table.rows }
-    ensures clear { OnOk result (room.new.controls ≡ replicate table.now.controls 0) }
+    ensures clear { OnOk result (buffers.new.controls ≡ replicate table.now.controls 0) }
     ensures same { OnOk result (builder.new.table.controls ≡ table.now.controls) }
     ensures few { OnOk result (entries_of builder.new.table.rows + builder.new.room_entries ≤ 2 ^ 27) }
     ensures done { IfOk result (λ put. put ≡ true → AreComposedRows (M.level masks.now) table.now (take (row + 1) (M.masks masks.now)) builder.new.table.rows) }
 {
-    let den = compose_row(table, masks, row, room)?;
+    let den = compose_row(table, masks, row, buffers)?;
     let (_, left) = builder.room();
-    if den == 0 || room.entries.indices().len() as u64 > left {
+    if den == 0 || buffers.entries.indices().len() as u64 > left {
         return Ok(false);
     }
-    put_entries(den, &room.entries, builder)?;
+    put_entries(den, &buffers.entries, builder)?;
     Ok(true)
 }
 
@@ -100,17 +100,17 @@ fn put_row<M: PointMasks>(
 fn put_rows<M: PointMasks>(
     table: &StencilTable,
     masks: &M,
-    room: &mut NarrowRoom,
+    buffers: &mut NarrowBuffers,
     builder: &mut TableBuilder,
 ) -> Result<bool, Memory>
     requires each { length table.now.rows ≡ (M.level masks.now).point_count }
-    requires clear { room.old.controls ≡ replicate table.now.controls 0 }
+    requires clear { buffers.old.controls ≡ replicate table.now.controls 0 }
     requires none { builder.old.table ≡ no_rows table.now.controls }
     requires few { builder.old.room_entries ≤ 2 ^ 27 }
     ensures { IfOk result (λ put. put ≡ true → AreMaskRows (M.level masks.now) (M.masks masks.now) table.now builder.new.table) }
 {
     for row in 0..masks.count() {
-        if !put_row(table, masks, row, room, builder)? {
+        if !put_row(table, masks, row, buffers, builder)? {
             return Ok(false);
         }
     }
@@ -118,7 +118,7 @@ fn put_rows<M: PointMasks>(
 }
 
 // Allocates the buffers, then composes and appends all rows. Returns `false` if a denominator has more than 64 bits or the table is full.
-fn put_in_room<M: PointMasks>(
+fn put_all_rows<M: PointMasks>(
     alloc: Global,
     table: &StencilTable,
     masks: &M,
@@ -129,8 +129,8 @@ fn put_in_room<M: PointMasks>(
     requires few { builder.old.room_entries ≤ 2 ^ 27 }
     ensures { IfOk result (λ put. put ≡ true → AreMaskRows (M.level masks.now) (M.masks masks.now) table.now builder.new.table) }
 {
-    let mut room = NarrowRoom::new(alloc, table.controls())?;
-    put_rows(table, masks, &mut room, builder)
+    let mut buffers = NarrowBuffers::new(alloc, table.controls())?;
+    put_rows(table, masks, &mut buffers, builder)
 }
 
 /// Returns the table of the masks, made in one visit of the masks.
@@ -155,7 +155,7 @@ pub(crate) fn compose_narrow<M: PointMasks>(
         entries,
         Width::Narrow,
     )?;
-    if put_in_room(alloc, table, masks, &mut builder)? {
+    if put_all_rows(alloc, table, masks, &mut builder)? {
         Ok(Some(builder.finish()))
     } else {
         Ok(None)

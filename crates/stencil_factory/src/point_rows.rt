@@ -1,10 +1,10 @@
 //! Implements `RowMasks` for masks that the caller supplies.
 
-use crate::met::Met;
+use crate::place_set::PlaceSet;
 use crate::point_masks::{PointMasks, PointWeights};
 use crate::rows::RowMasks;
 use crate::scratch::Scratch;
-use crate::weights::{add_weights, meet_weights};
+use crate::weights::{add_weights, name_weights};
 use number_width::Natural;
 use ratio128::{Memory, quotient};
 use std::alloc::Global;
@@ -16,7 +16,7 @@ pub(crate) struct PointRows<'a, M> {
 }
 
 impl<M: PointMasks> RowMasks for PointRows<'_, M> {
-    type Room = PointWeights;
+    type Buffer = PointWeights;
 
     ghost level = { λ r. M.level r.masks.now };
 
@@ -26,9 +26,9 @@ impl<M: PointMasks> RowMasks for PointRows<'_, M> {
 
     ghost IsFound = { λ r dens. Unit {0} };
 
-    ghost IsClear = { λ r room. Unit {0} };
+    ghost IsClear = { λ r buffer. Unit {0} };
 
-    fn room(&self, alloc: Global) -> Result<PointWeights, Memory> {
+    fn buffer(&self, alloc: Global) -> Result<PointWeights, Memory> {
         Ok(PointWeights::new(alloc))
     }
 
@@ -36,10 +36,15 @@ impl<M: PointMasks> RowMasks for PointRows<'_, M> {
         self.masks.count()
     }
 
-    fn name(&self, row: u32, room: &mut PointWeights, met: &mut Met) -> Result<(), Memory> {
-        self.masks.put(row, room)?;
-        met.start();
-        meet_weights(met, room.weights())
+    fn name(
+        &self,
+        row: u32,
+        buffer: &mut PointWeights,
+        members: &mut PlaceSet,
+    ) -> Result<(), Memory> {
+        self.masks.put(row, buffer)?;
+        members.start();
+        name_weights(members, buffer.weights())
     }
 
     fn weigh<T: Natural>(
@@ -47,11 +52,11 @@ impl<M: PointMasks> RowMasks for PointRows<'_, M> {
         row: u32,
         den: u128,
         dens: &[u128],
-        room: &mut PointWeights,
+        buffer: &mut PointWeights,
         scratch: &mut Scratch<T>,
     ) -> Result<(), Memory> {
-        self.masks.put(row, room)?;
-        let multiple = quotient(den, room.denominator());
-        add_weights(scratch, room.weights(), multiple, dens)
+        self.masks.put(row, buffer)?;
+        let multiple = quotient(den, buffer.denominator());
+        add_weights(scratch, buffer.weights(), multiple, dens)
     }
 }

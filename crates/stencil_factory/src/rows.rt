@@ -8,7 +8,7 @@ ghost use Rattle.stencil_factory.specs.Flat.{IsWeighed};
 ghost use Rattle.stencil_factory.specs.Named.{AreNamed};
 ghost use Rattle.stencil_factory.specs.MaskRows.{mask_at};
 
-use crate::met::Met;
+use crate::place_set::PlaceSet;
 use crate::scratch::Scratch;
 use number_width::Natural;
 use ratio128::Memory;
@@ -17,7 +17,7 @@ use std::alloc::Global;
 /// Masks over the points of a level, one for each row.
 pub(crate) trait RowMasks {
     /// The buffer for the mask of one row.
-    type Room: Drop;
+    type Buffer: Drop;
 
     ghost use Rattle.std.specs.Prelude.{List};
     ghost use Rattle.subdiv_model.specs.Level.{Level};
@@ -36,12 +36,12 @@ pub(crate) trait RowMasks {
     ghost IsFound: { Self → List ℕ → Type 0 };
 
     /// The buffer can take the mask of another row.
-    ghost IsClear: { Self → Self.Room → Type 0 };
+    ghost IsClear: { Self → Self.Buffer → Type 0 };
 
     /// Returns a buffer for the mask of one row.
-    fn room(&self, alloc: Global) -> Result<Self::Room, Memory>
+    fn buffer(&self, alloc: Global) -> Result<Self::Buffer, Memory>
         requires { IsReady self.now }
-        ensures { IfOk result (λ room. IsClear self.now room) };
+        ensures { IfOk result (λ buffer. IsClear self.now buffer) };
 
     /// Returns the number of masks, at most 2^30.
     fn count(&self) -> u32
@@ -49,15 +49,20 @@ pub(crate) trait RowMasks {
         ensures count { result ≡ length (masks self.now) }
         ensures few { result ≤ 2 ^ 30 };
 
-    /// Empties the set `met`, then adds the points that mask `row` names.
-    fn name(&self, row: u32, room: &mut Self::Room, met: &mut Met) -> Result<(), Memory>
+    /// Empties the set `members`, then adds the points that mask `row` names.
+    fn name(
+        &self,
+        row: u32,
+        buffer: &mut Self::Buffer,
+        members: &mut PlaceSet,
+    ) -> Result<(), Memory>
         requires ready { IsReady self.now }
         requires known { row < length (masks self.now) }
-        requires clear { IsClear self.now room.old }
-        requires count { met.old.count ≡ (level self.now).point_count }
-        requires room { met.old.mark + 1 < 2 ^ 32 }
-        ensures named { OnOk result (AreNamed (level self.now) (mask_at (masks self.now) row) (met.old.mark + 1) met.new) }
-        ensures clear { OnOk result (IsClear self.now room.new) };
+        requires clear { IsClear self.now buffer.old }
+        requires count { members.old.count ≡ (level self.now).point_count }
+        requires mark { members.old.mark + 1 < 2 ^ 32 }
+        ensures named { OnOk result (AreNamed (level self.now) (mask_at (masks self.now) row) (members.old.mark + 1) members.new) }
+        ensures clear { OnOk result (IsClear self.now buffer.new) };
 
     /// Adds the weights of mask `row` to `scratch`, which has a 0 for each point of the level. `den` is the mask's common
     /// denominator, and `dens` are the denominators of the points. Each weight is the factor for the row of its point.
@@ -66,18 +71,18 @@ pub(crate) trait RowMasks {
         row: u32,
         den: u128,
         dens: &[u128],
-        room: &mut Self::Room,
+        buffer: &mut Self::Buffer,
         scratch: &mut Scratch<T>,
     ) -> Result<(), Memory>
         requires ready { IsReady self.now }
         requires found { IsFound self.now dens.now }
         requires known { row < length (masks self.now) }
-        requires clear { IsClear self.now room.old }
+        requires clear { IsClear self.now buffer.old }
         requires dens { ArePointDenominators (level self.now) dens.now }
         requires den { den ≡ mask_denominator (source_denominator (level self.now) dens.now) (mask_at (masks self.now) row) }
         requires short { den ≤ number_bound }
         requires fits { den ≤ T.most }
         requires zeros { scratch.old ≡ replicate (level self.now).point_count 0 }
         ensures weighed { OnOk result (IsWeighed (level self.now) dens.now (mask_at (masks self.now) row) scratch.new) }
-        ensures clear { OnOk result (IsClear self.now room.new) };
+        ensures clear { OnOk result (IsClear self.now buffer.new) };
 }

@@ -1,17 +1,12 @@
 //! Composes the table of a refinement step.
 
-ghost use Rattle.std.specs.Prelude.{◌≡◌, ◌≤◌, List, length};
-ghost use Rattle.subdiv_model.specs.Level as model_level;
-ghost use Rattle.subdiv_model.specs.Mask as model;
+ghost use Rattle.std.specs.Prelude.{◌≡◌, ◌≤◌, length};
 ghost use Rattle.subdiv_model.specs.Channel.{entry_bound};
-ghost use Rattle.level_topology.specs.Child.{PointOrigin};
 ghost use Rattle.mask_rules.specs.View.{scheme_of};
-ghost use Rattle.child_masks.specs.Masks.{CanRefine, HasNoTransition, masks_from};
-ghost use Rattle.child_masks.specs.Survey.{IsSurvey, IsSurveyFault};
-ghost use Rattle.stencil_apply.specs.Table.{Table};
+ghost use Rattle.child_masks.specs.Masks.{CanRefine};
+ghost use Rattle.child_masks.specs.Survey.{IsSurvey};
 ghost use Rattle.stencil_factory.specs.Rows.{dens_of};
-ghost use Rattle.stencil_factory.specs.MaskRows.{IsRowFault};
-ghost use Rattle.stencil_factory.specs.Composed.{IsTableComposition, IsTableFault};
+ghost use Rattle.stencil_factory.specs.Composed.{IsFaultOfRows, IsFaultOfSurvey, IsTableComposition};
 
 use crate::child_rows::ChildRows;
 use crate::compose::compose_rows;
@@ -26,7 +21,7 @@ use stencil_apply::StencilTable;
 
 // Translates a fault of the survey.
 fn table_fault(fault: SurveyFault) -> TableFault
-    ensures { (level : model_level.Level) (scheme : model.Scheme) (origins : List PointOrigin) (table : Table) → IsSurveyFault level scheme origins (dens_of table) fault → IsTableFault level scheme origins table result }
+    ensures { IsFaultOfSurvey fault result }
 {
     match fault {
         SurveyFault::Transition(point) => TableFault::Transition { point },
@@ -37,8 +32,7 @@ fn table_fault(fault: SurveyFault) -> TableFault
 
 // Translates a fault of the rows. Row `p` is point `p` of the child.
 fn fault_of_rows(fault: RowFault) -> TableFault
-    ensures { (level : model_level.Level) (scheme : model.Scheme) (origins : List PointOrigin) (table : Table) → HasNoTransition level scheme origins
-        → IsRowFault level (masks_from level scheme origins) table fault → IsTableFault level scheme origins table result }
+    ensures { IsFaultOfRows fault result }
 {
     match fault {
         RowFault::Denominator { row } => TableFault::Denominator { point: row },
@@ -49,7 +43,7 @@ fn fault_of_rows(fault: RowFault) -> TableFault
 
 // Returns the capacity to start with: 16 entries a row, or `controls` if that is fewer, at most 2^27 in all. In a mesh of quads with
 // four edges at each vertex a point depends on at most 16 control points.
-fn room_for(rows: u32, controls: u32) -> u64
+fn capacity_for(rows: u32, controls: u32) -> u64
     ensures { result ≤ entry_bound }
 {
     (u64::from(rows) * u64::from(controls.min(16))).min(ENTRY_BOUND)
@@ -78,8 +72,8 @@ fn compose_surveyed(
         scheme,
         survey,
     };
-    let room = room_for(child.level().points(), table.controls());
-    match compose_rows(alloc, table, &rows, &survey.dens, room) {
+    let capacity = capacity_for(child.level().points(), table.controls());
+    match compose_rows(alloc, table, &rows, &survey.dens, capacity) {
         Ok(composed) => Ok(composed),
         Err(fault) => Err(fault_of_rows(fault)),
     }

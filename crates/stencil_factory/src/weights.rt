@@ -9,11 +9,11 @@ ghost use Rattle.child_masks.specs.Survey.{within_bound};
 ghost use Rattle.stencil_factory.specs.Rows.{support_of};
 ghost use Rattle.stencil_factory.specs.Scratch.{added_shares};
 ghost use Rattle.stencil_factory.specs.Flat.{CanAddAll};
-ghost use Rattle.stencil_factory.specs.Met.{with_places};
+ghost use Rattle.stencil_factory.specs.PlaceSet.{with_places};
 ghost use Rattle.stencil_factory.specs.Joined.{amounts_of, weighing};
 
 use crate::flat::add_point;
-use crate::met::Met;
+use crate::place_set::PlaceSet;
 use crate::scratch::Scratch;
 use child_masks::common_multiple;
 use number_width::Natural;
@@ -47,24 +47,24 @@ pub(crate) fn multiple_of_weights(weights: &[(u32, u128)], dens: &[u128]) -> u12
 }
 
 // Adds the point of a weight to the set if the weight is above 0.
-fn meet_weight(met: &mut Met, weight: &(u32, u128)) -> Result<(), Memory>
-    requires { weight.now.0 < met.old.count }
-    ensures { OnOk result (met.new ≡ with_places (support_of (weighing (weight.now ∷ []))) met.old) }
+fn name_weight(members: &mut PlaceSet, weight: &(u32, u128)) -> Result<(), Memory>
+    requires { weight.now.0 < members.old.count }
+    ensures { OnOk result (members.new ≡ with_places (support_of (weighing (weight.now ∷ []))) members.old) }
 {
     if weight.1 == 0 {
         return Ok(());
     }
-    met.add(weight.0)
+    members.add(weight.0)
 }
 
 /// Adds the points that have a weight above 0 to the set.
-pub(crate) fn meet_weights(met: &mut Met, weights: &[(u32, u128)]) -> Result<(), Memory>
-    requires { All (λ share. share.0 < met.old.count) weights.now }
-    ensures { OnOk result (met.new ≡ with_places (support_of (weighing weights.now)) met.old) }
+pub(crate) fn name_weights(members: &mut PlaceSet, weights: &[(u32, u128)]) -> Result<(), Memory>
+    requires { All (λ share. share.0 < members.old.count) weights.now }
+    ensures { OnOk result (members.new ≡ with_places (support_of (weighing weights.now)) members.old) }
 {
     let mut rest = weights;
     while let [weight, others @ ..] = rest {
-        meet_weight(met, weight)?;
+        name_weight(members, weight)?;
         rest = others;
     }
     Ok(())

@@ -27,8 +27,8 @@ returns-clause-added g c =
     (zip-parts c.args.entries.now c.indices.result.now (map g.T.Natural.value c.numerators.result.now) c.indices.ensures c.numerators.ensures))
     c.add_parts.ensures.added
 
-pub returns-clause-room : goal.returns-clause-room
-returns-clause-room g c =
+pub returns-clause-capacity : goal.returns-clause-capacity
+returns-clause-capacity g c =
     on_ok_weaker c.add_parts.result
     (λ left. left ∙ ap (λ n. c.args.builder.now.room_entries - n) (ap length c.indices.ensures ∙ length-map c.args.entries.now (λ (share : Share). share.0)))
     c.add_parts.ensures.room_entries

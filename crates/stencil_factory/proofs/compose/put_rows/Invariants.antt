@@ -8,10 +8,10 @@ use Rattle.stencil_factory.proofs.compose.put_rows.Given as goal
 -- The table has the rows of the first masks, and all buffers are clear.
 abbrev pub invariant-loop-row : goal.invariant-loop-row
 invariant-loop-row g l = record {
-  clear : g.R.RowMasks.IsClear l.rows l.room.mask;
-  points : l.room.points ≡ replicate (g.R.RowMasks.level l.rows).point_count 0;
-  controls : l.room.controls ≡ replicate l.table.controls 0;
-  counted : l.room.counted ≡ true → mask_entries (g.R.RowMasks.level l.rows) l.table (g.R.RowMasks.masks l.rows) ≤ entry_bound;
+  clear : g.R.RowMasks.IsClear l.rows l.buffers.mask;
+  points : l.buffers.points ≡ replicate (g.R.RowMasks.level l.rows).point_count 0;
+  controls : l.buffers.controls ≡ replicate l.table.controls 0;
+  counted : l.buffers.counted ≡ true → mask_entries (g.R.RowMasks.level l.rows) l.table (g.R.RowMasks.masks l.rows) ≤ entry_bound;
   few : AreFew (mask_entries (g.R.RowMasks.level l.rows) l.table (g.R.RowMasks.masks l.rows)) (entries_of l.builder.table.rows) l.builder.room_entries;
   same : l.builder.table.controls ≡ l.table.controls;
   done : AreComposedRows (g.R.RowMasks.level l.rows) l.table (take l.row (g.R.RowMasks.masks l.rows)) l.builder.table.rows;

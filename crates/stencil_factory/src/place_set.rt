@@ -2,7 +2,7 @@
 
 ghost use Rattle.std.specs.Prelude.{◌≡◌, ◌+◌, ◌^◌, ◌<◌, [], length, IfOk, OnOk, OnErr};
 ghost use Rattle.std.specs.List.{All};
-ghost use Rattle.stencil_factory.specs.Met.{noted_with, with_place, with_places};
+ghost use Rattle.stencil_factory.specs.PlaceSet.{noted_with, with_place, with_places};
 
 use ratio128::Memory;
 use std::alloc::Global;
@@ -10,21 +10,21 @@ use std::marker::Model;
 
 /// A set of places. A place is a member if its mark equals the current mark; `places` lists the members in the order they came.
 #[derive(Drop)]
-pub(crate) struct Met {
+pub(crate) struct PlaceSet {
     marks: Vec<u32>,
     mark: u32,
     places: Vec<u32>,
 }
 
-impl Model for Met {
+impl Model for PlaceSet {
     ghost use Rattle.std.specs.Prelude.{length};
-    ghost use Rattle.stencil_factory.specs.Met.{Places, AreMet};
+    ghost use Rattle.stencil_factory.specs.PlaceSet.{Places, AreMarked};
 
     ghost Value = { Places };
 
-    ghost view = { λ m. record { count = length m.marks.items; mark = m.mark; met = m.places.items } };
+    ghost view = { λ m. record { count = length m.marks.items; mark = m.mark; members = m.places.items } };
 
-    ghost invariant = { λ m. AreMet m.mark m.places.items m.marks.items };
+    ghost invariant = { λ m. AreMarked m.mark m.places.items m.marks.items };
 }
 
 // Appends a place to the list, unless its mark `own` is the current mark.
@@ -38,12 +38,12 @@ fn note(places: &mut Vec<u32>, place: u32, own: u32, mark: u32) -> Result<(), Me
     Ok(())
 }
 
-impl Met {
+impl PlaceSet {
     /// Returns an empty set of places below `count`.
-    pub(crate) fn new(alloc: Global, count: u32) -> Result<Met, Memory>
-        ensures { IfOk result (λ met. met ≡ record { count = count; mark = 1; met = [] }) }
+    pub(crate) fn new(alloc: Global, count: u32) -> Result<PlaceSet, Memory>
+        ensures { IfOk result (λ members. members ≡ record { count = count; mark = 1; members = [] }) }
     {
-        Ok(Met {
+        Ok(PlaceSet {
             marks: vec![in alloc; 0; count as usize]?,
             mark: 1,
             places: Vec::with_capacity(alloc, count as usize)?,
@@ -53,7 +53,7 @@ impl Met {
     /// Empties the set, with a new mark.
     pub(crate) fn start(&mut self)
         requires { self.old.mark + 1 < 2 ^ 32 }
-        ensures { self.new ≡ record { count = self.old.count; mark = self.old.mark + 1; met = [] } }
+        ensures { self.new ≡ record { count = self.old.count; mark = self.old.mark + 1; members = [] } }
     {
         self.mark += 1;
         self.places.clear();
@@ -86,7 +86,7 @@ impl Met {
 
     /// Returns the members, each once, in the order they came.
     pub(crate) fn places(&self) -> &[u32]
-        ensures places { result.now ≡ self.now.met }
+        ensures places { result.now ≡ self.now.members }
         ensures inside { All (λ place. place < self.now.count) result.now }
     {
         &self.places

@@ -1,7 +1,7 @@
 use Rattle.std.proofs.Common.{◌≡◌, ◌<◌, length}
 use Rattle.std.specs.List.{All}
-use Rattle.stencil_factory.specs.Met.{with_places}
-use Rattle.stencil_factory.proofs.met.Met.add_all.Given as goal
+use Rattle.stencil_factory.specs.PlaceSet.{with_places}
+use Rattle.stencil_factory.proofs.place_set.PlaceSet.add_all.Given as goal
 
 -- Adding the remaining places to the set gives the set for all places.
 abbrev pub invariant-loop-rest : goal.invariant-loop-rest

@@ -1,6 +1,0 @@
-use Rattle.std.proofs.Common.{rules}
-use Rattle.stencil_factory.proofs.MetLemmas.{met-start}
-use Rattle.stencil_factory.proofs.met.Met.new.Goals as goal
-
-pub invariant_of-result : goal.invariant_of-result
-invariant_of-result c = met-start c.in_ok-with_capacity.field-0.items c.in_ok-vec.field-0.items c.args.count c.in_ok-with_capacity.ensures.items (search rules)
