@@ -1,5 +1,5 @@
 -- Origins in a caller's arrays: the lengths of the arrays, and what they contain.
-use Rattle.std.specs.Prelude.{ℕ, ◌≡◌, ◌&&◌, Bool, nat_le, length, map, take}
+use Rattle.std.specs.Prelude.{ℕ, ◌≡◌, ◌&&◌, Bool, nat_le, length, map, take, drop}
 use Rattle.level_origins.specs.Origins.{Origin, OnPoint, OnEdge, OnFace, number_of, Origins}
 use Rattle.level_origins.specs.declared.places.OriginCounts.{OriginCounts}
 use Rattle.level_origins.specs.declared.places.OriginPlaces.{OriginPlaces}
@@ -24,3 +24,9 @@ pub record IsWritten (origins : Origins) (places : OriginPlaces) : Type 0 where
   pub kinds : take (length origins.points) places.kinds.now ≡ map kind_of origins.points
   pub numbers : take (length origins.points) places.numbers.now ≡ map number_of origins.points
   pub faces : take (length origins.faces) places.faces.now ≡ origins.faces
+
+-- the places behind the written ones are unchanged
+pub record IsRestKept (origins : Origins) (old new : OriginPlaces) : Type 0 where
+  pub kinds : drop (length origins.points) new.kinds.now ≡ drop (length origins.points) old.kinds.now
+  pub numbers : drop (length origins.points) new.numbers.now ≡ drop (length origins.points) old.numbers.now
+  pub faces : drop (length origins.faces) new.faces.now ≡ drop (length origins.faces) old.faces.now

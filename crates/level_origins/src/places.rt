@@ -47,6 +47,7 @@ fn kind_of(origin: Origin) -> u8
 fn put_kinds(origins: &[Origin], out: &mut [u8])
     requires fits { length origins.now ≤ length out.old }
     ensures written { take (length origins.now) out.new ≡ map spec.kind_of (map seen_origin origins.now) }
+    ensures rest { drop (length origins.now) out.new ≡ drop (length origins.now) out.old }
     ensures len { length out.new ≡ length out.old }
 {
     for (i, origin) in origins.iter().enumerate() {
@@ -58,6 +59,7 @@ fn put_kinds(origins: &[Origin], out: &mut [u8])
 fn put_numbers(origins: &[Origin], out: &mut [u32])
     requires fits { length origins.now ≤ length out.old }
     ensures written { take (length origins.now) out.new ≡ map number_of (map seen_origin origins.now) }
+    ensures rest { drop (length origins.now) out.new ≡ drop (length origins.now) out.old }
     ensures len { length out.new ≡ length out.old }
 {
     for (i, origin) in origins.iter().enumerate() {
@@ -86,10 +88,11 @@ pub fn counts_of(origins: &Origins) -> OriginCounts
 }
 
 /// Writes the origins of a level to the front of the arrays, and returns whether it did. It returns `false` and writes
-/// nothing if some array is too short.
+/// nothing if some array is too short. The call leaves later places unchanged.
 pub fn put_origins(origins: &Origins, places: &mut OriginPlaces) -> bool
     ensures long_enough { result ≡ spec.are_long_enough (seen_origins origins.now) places.old }
     ensures written { result ≡ true → spec.IsWritten (seen_origins origins.now) places.new }
+    ensures rest { spec.IsRestKept (seen_origins origins.now) places.old places.new }
     ensures kept { result ≡ false → places.new ≡ places.old }
     ensures kinds { IsSameArray places.old.kinds places.new.kinds }
     ensures numbers { IsSameArray places.old.numbers places.new.numbers }

@@ -1,4 +1,4 @@
-use Rattle.std.proofs.Common.{◌≡◌, length, map, take}
+use Rattle.std.proofs.Common.{◌≡◌, length, map, take, drop}
 use Rattle.level_origins.specs.Origins.{number_of}
 use Rattle.level_origins.specs.View.{seen_origin}
 use Rattle.level_origins.proofs.places.put_numbers.Given as goal
@@ -7,5 +7,6 @@ use Rattle.level_origins.proofs.places.put_numbers.Given as goal
 abbrev pub invariant-loop-i : goal.invariant-loop-i
 invariant-loop-i l = record {
   written : take l.i l.out ≡ map number_of (map seen_origin (take l.i l.origins));
+  rest : drop (length l.origins) l.out ≡ drop (length l.origins) l.fn.out;
   len : length l.out ≡ length l.fn.out;
 }
