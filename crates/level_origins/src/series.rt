@@ -1,9 +1,8 @@
 //! The origins of the level at a depth, carried along from level 0.
 
 ghost use Rattle.std.specs.Prelude.{◌≡◌, ◌^◌, ◌≤◌, true, replicate, IfOk, MatchResult, OnOk, IsTrue};
-ghost use Rattle.subdiv_model.specs.Channel.{Channel, Sharpnesses};
 ghost use Rattle.mask_laws.specs.SharpBoundary.{has_sharp_boundary};
-ghost use Rattle.uniform_walk.specs.Faults.{IsChannelFault};
+ghost use Rattle.uniform_walk.specs.Faults.{IsFaultOfLevels};
 ghost use Rattle.uniform_walk.specs.Levels.{AreMade, AreLevelSteps};
 ghost use Rattle.level_origins.specs.Origins.{origins_to};
 ghost use Rattle.level_origins.specs.Child.{AreFew, AreOrigins};
@@ -80,7 +79,7 @@ pub fn find_origins<L: Ledger>(
     requires whole { base.complete ≡ replicate base.level.point_count true }
     requires boundary { IsTrue (has_sharp_boundary base.level) }
     ensures found { MatchResult result (λ origins. seen_origins origins ≡ origins_to base.level depth)
-        (λ fault. (channel : Channel) → channel.base ≡ base.level → IsChannelFault Sharpnesses channel depth fault) }
+        (IsFaultOfLevels base.level depth) }
     ensures few { IfOk result (λ origins. AreFew (seen_origins origins)) }
     ensures made { OnOk result (AreMade base.level depth) }
     ensures steps { AreLevelSteps base.level depth steps.old steps.new }
