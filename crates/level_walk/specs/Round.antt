@@ -1,5 +1,5 @@
 -- One round of a walk, or the reason why it fails.
-use Rattle.std.specs.Prelude.{ℕ, ◌≡◌, ◌⊎◌}
+use Rattle.std.specs.Prelude.{ℕ, ◌≡◌, ◌⊎◌, Result, MatchResult}
 use Rattle.level_topology.specs.Topology.{Topology}
 use Rattle.level_topology.specs.Child.{ChildTopology}
 use Rattle.level_walk.specs.declared.fault.Cause.{Cause}
@@ -38,3 +38,19 @@ IsCause level_of Makes Refuses Follows Fails from cause old new =
     Refuses from.level cause old new
     ⊎ (IsLeftBehind level_of Makes Fails from cause old new
     ⊎ IsWithoutMemory level_of Makes Follows from cause old new)
+
+-- the next level and its data, or the reason why it is not reached
+abbrev pub IsRound : {W C : Type 0} → (W → Topology) → (W → ChildTopology → W → ℕ → ℕ → Type 0) → (W → Cause → ℕ → ℕ → Type 0)
+    → (Topology → ChildTopology → C → C → ℕ → ℕ → Type 0) → (Topology → ChildTopology → C → Cause → ℕ → ℕ → Type 0)
+    → Reached W C → Result (Reached W C) Cause → ℕ → ℕ → Type 0
+IsRound level_of Makes Refuses Follows Fails from result old new =
+    MatchResult result (λ next. IsNext level_of Makes Follows from next old new) (λ cause. IsCause level_of Makes Refuses Follows Fails from cause old new)
+
+-- a round in which the visitor also takes the level that is left behind; the last arguments are the result, the visitor and
+-- the number of steps before and after
+abbrev pub IsTakenRound : {W C V : Type 0} → (W → Topology) → (W → ChildTopology → W → ℕ → ℕ → Type 0) → (W → Cause → ℕ → ℕ → Type 0)
+    → (Topology → ChildTopology → C → C → ℕ → ℕ → Type 0) → (Topology → ChildTopology → C → Cause → ℕ → ℕ → Type 0)
+    → (W → C → V → Type 0) → Reached W C → Result (Reached W C) Cause → V → ℕ → ℕ → Type 0
+IsTakenRound level_of Makes Refuses Follows Fails Taken from result visitor old new =
+    MatchResult result (λ next. IsNext level_of Makes Follows from next old new × Taken from.level from.carried visitor)
+    (λ cause. IsCause level_of Makes Refuses Follows Fails from cause old new)

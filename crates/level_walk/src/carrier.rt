@@ -42,8 +42,8 @@ pub trait Carrier<L: Ledger> {
         requires fits { Fits self.now parent.now before.now }
         requires child { CanRefine parent.now child.now CatmullClark }
         ensures followed { MatchResult result
-            (λ next. Follows self.now parent.now child.now before.now next steps.old steps.new)
-            (λ cause. Fails self.now parent.now child.now before.now cause steps.old steps.new) }
+            (λ to. Follows self.now parent.now child.now before.now to steps.old steps.new)
+            (λ why. Fails self.now parent.now child.now before.now why steps.old steps.new) }
         ensures fits { IfOk result (λ next. Fits self.now child.now.topology next) };
 }
 

@@ -1,7 +1,7 @@
 //! One round of a walk.
 
 ghost use Rattle.std.specs.Prelude.{◌≡◌, ℕ, suc, Ok, Err, IfOk, MatchResult};
-ghost use Rattle.level_walk.specs.Round.{IsNext, IsCause};
+ghost use Rattle.level_walk.specs.Round.{IsRound, IsTakenRound};
 
 use crate::carrier::Carrier;
 use crate::fault::Cause;
@@ -32,9 +32,7 @@ fn next<S: NextLevel<L>, C: Carrier<L>, L: Ledger>(
 ) -> Result<Reached<S::Level, C::Carried>, Cause>
     requires ready { (left : ℕ) × S.IsReady step.now from.now.level (suc left) }
     requires fits { C.Fits carrier.now (S.level_of from.now.level) from.now.carried }
-    ensures made { MatchResult result
-        (λ next. IsNext S.level_of (S.Makes step.now) (C.Follows carrier.now) from.now next steps.old steps.new)
-        (λ cause. IsCause S.level_of (S.Makes step.now) (S.Refuses step.now) (C.Follows carrier.now) (C.Fails carrier.now) from.now cause steps.old steps.new) }
+    ensures made { IsRound S.level_of (S.Makes step.now) (S.Refuses step.now) (C.Follows carrier.now) (C.Fails carrier.now) from.now result steps.old steps.new }
     ensures ready { (left : ℕ) → S.IsReady step.now from.now.level (suc left) → IfOk result (λ next. S.IsReady step.now next.level left) }
     ensures fits { IfOk result (λ next. C.Fits carrier.now (S.level_of next.level) next.carried) }
 {
@@ -76,9 +74,8 @@ pub(crate) fn round<S: NextLevel<L>, C: Carrier<L>, V: Visitor<S::Level, C::Carr
 ) -> Result<Reached<S::Level, C::Carried>, Cause>
     requires ready { (left : ℕ) × S.IsReady step.now from.level (suc left) }
     requires fits { C.Fits carrier.now (S.level_of from.level) from.carried }
-    ensures made { MatchResult result
-        (λ next. IsNext S.level_of (S.Makes step.now) (C.Follows carrier.now) from next steps.old steps.new × V.Takes visitor.old from.level from.carried visitor.new)
-        (λ cause. IsCause S.level_of (S.Makes step.now) (S.Refuses step.now) (C.Follows carrier.now) (C.Fails carrier.now) from cause steps.old steps.new) }
+    ensures made { IsTakenRound S.level_of (S.Makes step.now) (S.Refuses step.now) (C.Follows carrier.now) (C.Fails carrier.now)
+        (V.Takes visitor.old) from result visitor.new steps.old steps.new }
     ensures ready { (left : ℕ) → S.IsReady step.now from.level (suc left) → IfOk result (λ next. S.IsReady step.now next.level left) }
     ensures fits { IfOk result (λ next. C.Fits carrier.now (S.level_of next.level) next.carried) }
 {
