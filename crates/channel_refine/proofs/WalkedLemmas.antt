@@ -61,7 +61,7 @@ module _ {C V : Type 0} (rows : C → List Row) (Takes : V → Topology → C �
       let t = from.reached.level in
       let faces = series.faces-next channel.base k t is.0.level in
       let terms = terms-more k t made.child is.0.level made.made.refined in
-      let taken : new ≡ made.between + step_terms t.level channel.scheme made.child.origins = of-channel (λ _ s. new ≡ made.between + step_terms t.level s made.child.origins) made.followed.1 in (
+      let taken : new ≡ made.level_steps + step_terms t.level channel.scheme made.child.origins = of-channel (λ _ s. new ≡ made.level_steps + step_terms t.level s made.child.origins) made.followed.1 in (
         reached-next channel controls k t (rows from.reached.carried) is.0 next.level (rows next.carried) made.child made.made.refined made.made.next_is
             (of-channel (λ m s. AreCarried m t.level s made.child.origins (rows from.reached.carried) (rows next.carried)) made.followed.0),
         (
@@ -115,7 +115,7 @@ module _ {C V : Type 0} (rows : C → List Row) (Takes : V → Topology → C �
         let t = last.reached.level in
         let dens = dens_of (rows last.reached.carried) in
         let terms = terms-here k t left.child is.0.level left.made.refined in
-        let taken : AreTermSteps t.level channel.scheme left.child.origins left.between new = of-channel (λ _ s. AreTermSteps t.level s left.child.origins left.between new) left.fails.1 in (
+        let taken : AreTermSteps t.level channel.scheme left.child.origins left.level_steps new = of-channel (λ _ s. AreTermSteps t.level s left.child.origins left.level_steps new) left.fails.1 in (
           first.first-of-carried Values tt channel k is.0.none t is.0.level.level dens is.0.dens depth within left.child left.made.refined _
               (dens-are t left.child left.made.refined channel.scheme dens) 0 refl cause
               (of-channel (λ m s. IsValueCause m t.level s left.child.origins (rows last.reached.carried) cause) left.fails.0),
@@ -128,7 +128,7 @@ module _ {C V : Type 0} (rows : C → List Row) (Takes : V → Topology → C �
         let t = last.reached.level in
         let made = without.made in
         let terms = terms-here k t made.child is.0.level made.made.refined in
-        let taken : new ≡ made.between + step_terms t.level channel.scheme made.child.origins = of-channel (λ _ s. new ≡ made.between + step_terms t.level s made.child.origins) made.followed.1 in (
+        let taken : new ≡ made.level_steps + step_terms t.level channel.scheme made.child.origins = of-channel (λ _ s. new ≡ made.level_steps + step_terms t.level s made.child.origins) made.followed.1 in (
           subst (IsLevelFault Values channel depth (k + 1)) (sym without.memory) tt,
           (
             bound k depth new t last.steps within is.0.level is.1.1 (omega (arith, made.made.steps.most, taken, terms)),

@@ -6,22 +6,23 @@ use Rattle.level_walk.specs.declared.fault.Cause.{Cause}
 use Rattle.level_walk.specs.declared.fault.Cause.TheVariants.{Memory}
 use Rattle.level_walk.specs.declared.reached.Reached.{Reached}
 
--- from a level and its data to the next level and its data, with the number of steps before and after
+-- from a level and its data to the next level and its data, with the number of steps before, once the level is made, and
+-- after
 pub record IsNext {W C : Type 0} (level_of : W → Topology) (Makes : W → ChildTopology → W → ℕ → ℕ → Type 0)
     (Follows : Topology → ChildTopology → C → C → ℕ → ℕ → Type 0) (from next : Reached W C) (old new : ℕ) : Type 0 where
   pub child : ChildTopology
-  pub between : ℕ
-  pub made : Makes from.level child next.level old between
-  pub followed : Follows (level_of from.level) child from.carried next.carried between new
+  pub level_steps : ℕ
+  pub made : Makes from.level child next.level old level_steps
+  pub followed : Follows (level_of from.level) child from.carried next.carried level_steps new
 
 -- the next level is made, but the data cannot follow to it
 pub record IsLeftBehind {W C : Type 0} (level_of : W → Topology) (Makes : W → ChildTopology → W → ℕ → ℕ → Type 0)
     (Fails : Topology → ChildTopology → C → Cause → ℕ → ℕ → Type 0) (from : Reached W C) (cause : Cause) (old new : ℕ) : Type 0 where
   pub child : ChildTopology
   pub next : W
-  pub between : ℕ
-  pub made : Makes from.level child next old between
-  pub fails : Fails (level_of from.level) child from.carried cause between new
+  pub level_steps : ℕ
+  pub made : Makes from.level child next old level_steps
+  pub fails : Fails (level_of from.level) child from.carried cause level_steps new
 
 -- the next level is made and the data follows to it, but memory runs out for the visitor
 pub record IsWithoutMemory {W C : Type 0} (level_of : W → Topology) (Makes : W → ChildTopology → W → ℕ → ℕ → Type 0)

@@ -143,7 +143,7 @@ module _ (test : FaceFacts → Bool) (channel : Channel) (depth : ℕ) where
     pub follows : (k : ℕ) (from next : Reached Walked Table) (old new : ℕ) → k < depth → levels.IsReached test channel.base depth k from.level.sparse → Holds k from.level.sparse from.carried old
         → IsNext topology_of (IsMade test) Follow from next old new → Holds (k + 1) next.level.sparse next.carried new
     follows k from next old new within is held made =
-        held-next k from.level.sparse is within from.level refl made.child next.level old made.between made.made start.steps old from.carried held next.carried made.between new
+        held-next k from.level.sparse is within from.level refl made.child next.level old made.level_steps made.made start.steps old from.carried held next.carried made.level_steps new
         (of-channel (λ m s. IsCarried m from.level.sparse.topology.level s made.child.origins from.carried next.carried) made.followed.0) made.made.steps.later made.made.steps.most made.followed.1
 
     abbrev pub IsAt : ℕ → Place Walked Table (KeptSoFar Table) → Type 0
@@ -201,7 +201,7 @@ module _ (test : FaceFacts → Bool) (channel : Channel) (depth : ℕ) where
       stopped-at k last new within is why (inr (inl left)) =
           let t = last.reached.level.sparse in
           let table = last.reached.carried in (
-            fault-next k t is.reached within last.reached.level refl left.child left.next last.steps left.between left.made start.steps last.steps table is.holds why
+            fault-next k t is.reached within last.reached.level refl left.child left.next last.steps left.level_steps left.made start.steps last.steps table is.holds why
                 (of-channel (λ m s. IsTableCause m t.topology.level s left.child.origins table why) left.fails.0),
             record {
               most = bound k new last within is (omega (arith, left.made.steps.most, left.fails.1));

@@ -98,7 +98,7 @@ module _ {C : Type 0} (test : FaceFacts → Bool) (base : Level) (depth : ℕ) (
       let before : IsMapOf base meeting k end.visitor = subst (IsMapOf base meeting k) (sym (leads.taken at.rises)) at.is in
       let count = levels.next-counted test base depth k t at.reached within in
       record {
-        reached = levels.made-next test base depth k from.reached.level leads.made.child end.reached.level from.steps leads.made.between within at.reached made;
+        reached = levels.made-next test base depth k from.reached.level leads.made.child end.reached.level from.steps leads.made.level_steps within at.reached made;
         later = omega (arith, at.later, made.steps.later, leads.made.followed);
         most = omega (arith, at.most, made.steps.most, leads.made.followed, count, sum-more (present_faces base meeting) k);
         rises = starts-rise base meeting k end.visitor before;

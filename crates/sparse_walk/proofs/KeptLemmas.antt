@@ -100,7 +100,7 @@ module _ {C : Type 0} (Holds : ℕ → SparseTopology → C → ℕ → Type 0) 
         ∙ ap (λ last. end.visitor.levels ++ last_kept last made.step.selected) leads.taken.last
         ∙ ap (λ (before : List (KeptLevel C)). before ++ one ∷ []) leads.taken.levels in
         record {
-          reached = levels.made-next test base depth k from.reached.level leads.made.child end.reached.level from.steps leads.made.between within at.reached made;
+          reached = levels.made-next test base depth k from.reached.level leads.made.child end.reached.level from.steps leads.made.level_steps within at.reached made;
           holds = follows k from.reached end.reached from.steps end.steps within at.reached at.holds leads.made;
           kept = subst (AreKept (k + 1)) (sym kept) (kept-more k (from.visitor.levels ++ last_kept from.visitor.last from.reached.level.before) one at.kept (record {
             sparse = t;

@@ -117,4 +117,4 @@ module _ (test : FaceFacts → Bool) (base : Level) (depth : ℕ) where
   walked-reached {C = C} {V = V} Follows Takes start at zero end within is = subst (λ (p : Place Walked C V). IsReached 0 p.reached.level.sparse) (sym is) at
   walked-reached {C = C} {V = V} Follows Takes start at (suc k) end within (before, (walked, leads)) =
       subst (λ n. IsReached n end.reached.level.sparse) (plus-one k)
-      (made-next k before.reached.level leads.made.child end.reached.level before.steps leads.made.between (omega (arith, within)) (walked-reached Follows Takes start at k before (omega (arith, within)) walked) leads.made.made)
+      (made-next k before.reached.level leads.made.child end.reached.level before.steps leads.made.level_steps (omega (arith, within)) (walked-reached Follows Takes start at k before (omega (arith, within)) walked) leads.made.made)
