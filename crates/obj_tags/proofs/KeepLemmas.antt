@@ -11,7 +11,7 @@ use Rattle.subdiv_model.specs.ObjTag.{tag_fault}
 use Rattle.subdiv_model.specs.ReadObj.{counts_of, is_texture_line, is_tag_line, words_fault, values_of, corner_numbers, point_over, texture_over, is_continued, has_known_keyword, least_values, line_fault, fault_at}
 use Rattle.obj_laws.proofs.ObjLineLemmas.{keyword-first, places-length, count-before}
 use Rattle.obj_tags.specs.Channel.{ArePositions, AreTextureValues, AddsPosition, AddsTextureValue}
-use Rattle.obj_tags.specs.Draft.{IsDraftOf, IsLineAt, HasRoom, textures_at}
+use Rattle.obj_tags.specs.Draft.{IsDraftOf, IsLineAt, HasCapacity, textures_at}
 use Rattle.raw_mesh.specs.Mesh.{pieces, Ascend}
 use Rattle.obj_tags.specs.View as view
 use Rattle.raw_mesh.specs.View.{point_of, texture_of}
@@ -276,9 +276,9 @@ some-starts [] end ascend = absurd ascend
 some-starts (a ∷ starts) end ascend = omega arith
 
 -- The draft of the first lines has no more than all lines have.
-pub kept-room : (all : Survey) (draft : Draft) (lines : List Line) (n more : ℕ) → view.counts_of all.counts ≡ counts_of lines
-    → all.counts.face_count < 2 ^ 32 → IsDraftOf all draft lines n → length draft.faces.corners.items + more < 2 ^ 32 → HasRoom draft all.counts more
-kept-room all draft lines n more counted few is corners =
+pub kept-capacity : (all : Survey) (draft : Draft) (lines : List Line) (n more : ℕ) → view.counts_of all.counts ≡ counts_of lines
+    → all.counts.face_count < 2 ^ 32 → IsDraftOf all draft lines n → length draft.faces.corners.items + more < 2 ^ 32 → HasCapacity draft all.counts more
+kept-capacity all draft lines n more counted few is corners =
     let starts = draft.faces.starts.items in
     let some = some-starts starts (length draft.faces.corners.items) is.faces.ascend in
     let b : face.Counts = record { point_count = length draft.positions.points.items; texture_count = length draft.texture.points.items; face_count = length starts - 1 } in

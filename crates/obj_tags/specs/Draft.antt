@@ -1,5 +1,5 @@
 -- What the reader kept of the first lines of a text.
-use Rattle.std.specs.Prelude.{ℕ, suc, ◌≡◌, ◌+◌, ◌<◌, ◌≤◌, ◌^◌, List, [], length, map, take, get_or, codes, None}
+use Rattle.std.specs.Prelude.{ℕ, suc, ◌≡◌, ◌+◌, ◌<◌, ◌≤◌, ◌^◌, List, [], length, map, take, drop, get_or, codes, None, Result}
 use Rattle.std.specs.List.{flat_map}
 use Rattle.sharpness_rules.specs.View.{method_of}
 use Rattle.subdiv_model.specs.Lists.{places}
@@ -7,15 +7,19 @@ use Rattle.subdiv_model.specs.ObjLine.{is_face_line}
 use Rattle.subdiv_model.specs.ObjWord.{corner_point}
 use Rattle.subdiv_model.specs.ObjTag.{tag_creases, tag_corners, tag_indices}
 use Rattle.subdiv_model.specs.ReadObj as model
-use Rattle.subdiv_model.specs.ReadObj.{counts_of, values_of, corner_numbers, tags_named}
+use Rattle.subdiv_model.specs.ReadObj.{counts_of, values_of, corner_numbers, tags_named, words_fault, fault_at}
 use Rattle.obj_tags.specs.Channel.{ArePositions, AreTextureValues, late_line}
 use Rattle.obj_tags.specs.Face.{named_textures}
+use Rattle.obj_tags.specs.Kept.{KeptUnless}
+use Rattle.obj_tags.specs.Keyword.{IsKeywordOf}
 use Rattle.obj_tags.specs.Line.{Line}
 use Rattle.raw_mesh.specs.Mesh.{AreShort, Ascend, pieces}
 use Rattle.raw_mesh.specs.View.{boundary_of, crease_of, corner_tag_of}
 use Rattle.obj_tags.specs.View as view
 use Rattle.obj_tags.specs.declared.face.Counts as face
 use Rattle.obj_tags.specs.declared.draft.Draft.{Draft}
+use Rattle.obj_tags.specs.declared.fault.LineFault.{LineFault}
+use Rattle.obj_tags.specs.declared.line.Keyword.{Keyword}
 use Rattle.raw_mesh.specs.declared.mesh.Coordinates.{Coordinates}
 use Rattle.raw_mesh.specs.declared.mesh.Faces.{Faces}
 use Rattle.raw_mesh.specs.declared.tags.Tags.{Tags}
@@ -57,7 +61,7 @@ HasShortNumbers all draft =
     late_line all.positions.wide draft.positions.long ≡ None → late_line all.texture.wide draft.texture.long ≡ None → AreShort (coordinates_of all draft)
 
 -- The draft has no more than all lines have, and `more` further corners can be numbered.
-pub record HasRoom (draft : Draft) (all : face.Counts) (more : ℕ) : Type 0 where
+pub record HasCapacity (draft : Draft) (all : face.Counts) (more : ℕ) : Type 0 where
   pub points : length draft.positions.points.items ≤ all.point_count
   pub textures : length draft.texture.points.items ≤ all.texture_count
   pub some : 1 ≤ length draft.faces.starts.items
@@ -70,3 +74,15 @@ pub record IsLineAt (all : face.Counts) (number : ℕ) (lines : List Line) (n : 
   pub here : get_or lines n [] ≡ line
   pub place : number ≡ suc n
   pub counted : view.counts_of all ≡ counts_of lines
+
+-- From the draft of the n lines before it, a line with these words after its keyword gives the draft of n + 1 lines, or its fault.
+abbrev pub KeepsWords : {X : Type 0} → Survey → ℕ → Keyword → List (List ℕ) → Draft → Draft → Result X LineFault → Type 0
+KeepsWords all number keyword words old new result =
+    (lines : List Line) (n : ℕ) (line : Line) → IsLineAt all.counts number lines n line → IsKeywordOf keyword line → drop 1 line ≡ words
+    → IsDraftOf all old lines n → KeptUnless result (words_fault (counts_of (take n lines)) (counts_of lines) line) (λ _. IsDraftOf all new lines (n + 1))
+
+-- From the draft of the n lines before it, a line gives the draft of n + 1 lines, or its fault.
+abbrev pub KeepsLine : {X : Type 0} → Survey → ℕ → Line → Draft → Draft → Result X LineFault → Type 0
+KeepsLine all number line old new result =
+    (lines : List Line) (n : ℕ) → IsLineAt all.counts number lines n line → IsDraftOf all old lines n
+    → KeptUnless result (fault_at lines n) (λ _. IsDraftOf all new lines (n + 1))

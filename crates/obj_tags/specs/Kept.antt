@@ -2,6 +2,9 @@
 use Rattle.std.specs.Prelude.{ℕ, ◌≡◌, ◌<◌, ◌≤◌, ◌^◌, unsigned_abs, List, Option, Some, None, Result, MatchResult}
 use Rattle.subdiv_model.specs.ObjFault as fault
 use Rattle.subdiv_model.specs.Numeral.{numeral_form, decimals_of}
+use Rattle.subdiv_model.specs.ObjMesh.{ObjMesh}
+use Rattle.subdiv_model.specs.ReadObj.{first_late_fault, mesh_of_lines}
+use Rattle.obj_tags.specs.Line.{Line}
 use Rattle.obj_text.specs.declared.numeral.Numeral.{Numeral}
 use Rattle.obj_tags.specs.declared.fault.ObjCause.{ObjCause}
 use Rattle.obj_tags.specs.declared.fault.LineFault.{LineFault}
@@ -43,3 +46,7 @@ pub record IsNumeralOf (n : Numeral) (word : List ℕ) : Type 0 where
   pub short : unsigned_abs n.num < 10 ^ 37
   pub positive : 0 < n.den
   pub bounded : n.den ≤ 10 ^ 37
+
+-- The mesh of the lines with this scale, or the fault of the least line with a number out of range.
+abbrev pub IsMeshRead : List Line → ℕ → Result ObjMesh ReadFault → Type 0
+IsMeshRead lines least result = TextKeptUnless result (first_late_fault least lines) (λ mesh. mesh ≡ mesh_of_lines lines least)

@@ -1,12 +1,15 @@
 -- What the values of a tag say, given its counts.
 use Rattle.std.specs.Option.{option_or}
-use Rattle.std.specs.Prelude.{ℕ, ◌≡◌, true, List, map, take, drop, zip, length, Option, Some, unsigned_abs}
+use Rattle.std.specs.Prelude.{ℕ, ◌≡◌, true, List, ◌++◌, map, take, drop, zip, length, Option, Some, unsigned_abs}
 use Rattle.subdiv_model.specs.ObjFault as fault
 use Rattle.subdiv_model.specs.ObjWord.{Counts}
 use Rattle.subdiv_model.specs.Sharpness as model
 use Rattle.subdiv_model.specs.Index.{index_of}
 use Rattle.subdiv_model.specs.Numeral.{numeral_amount}
 use Rattle.subdiv_model.specs.ObjTag.{tag_name, tag_counts, tag_values, kind_of_name, fits_counts, tag_fault, tag_index_fault, tag_numeral_fault, chain_pairs, for_each}
+use Rattle.raw_mesh.specs.View.{crease_of, corner_tag_of}
+use Rattle.raw_mesh.specs.declared.tags.CornerTag.{CornerTag}
+use Rattle.raw_mesh.specs.declared.tags.Crease.{Crease}
 use Rattle.sharpness_rules.specs.View.{sharpness_of}
 use Rattle.sharpness_rules.specs.declared.sharpness.Sharpness.{Sharpness}
 use Rattle.obj_tags.specs.Counts.{AreCountsOf}
@@ -60,3 +63,17 @@ pub record IsHeadOf (kind : TagKind) (counts : TagCounts) (left : List (List ℕ
   pub fits : fits_counts (kind_of kind) line ≡ true
   pub numbers : AreCountsOf counts (tag_counts line)
   pub rest : left ≡ tag_values line
+
+-- A crease for each edge of a chain follows the creases before it.
+abbrev pub AddsChain : TagCounts → List (List ℕ) → List Crease → List Crease → Type 0
+AddsChain counts words before after =
+    map crease_of after ≡ map crease_of before ++ chain_creases (indices_said counts words) (sharpnesses_said counts words)
+
+-- The points of a corner tag follow the points before them.
+abbrev pub AddsCorners : TagCounts → List (List ℕ) → List CornerTag → List CornerTag → Type 0
+AddsCorners counts words before after =
+    map corner_tag_of after ≡ map corner_tag_of before ++ vertex_tags (indices_said counts words) (sharpnesses_said counts words)
+
+-- The first fault among the indices of a tag.
+abbrev pub index_fault : ℕ → TagCounts → List (List ℕ) → Option fault.ObjCause
+index_fault faces counts words = fault.first_cause (tag_index_fault faces) (take counts.integers words)

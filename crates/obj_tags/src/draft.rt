@@ -19,27 +19,36 @@ pub(crate) struct Draft {
 }
 
 // The count of lines, at most the number of good lines of a kind that a text can have.
-fn room(count: u32, most: usize) -> usize
+fn capacity_for(count: u32, most: usize) -> usize
     ensures { result ≤ most }
 {
     most.min(count as usize)
 }
 
 impl Draft {
-    /// An empty draft, with room for the lines of each kind that `all` counts, as far as a text of `len` bytes can have good ones.
+    /// An empty draft, with capacity for the lines of each kind that `all` counts, as far as a text of `len` bytes can have good ones.
     pub(crate) fn new(alloc: Global, all: Survey, len: usize) -> Result<Draft, AllocError>
         requires { len ≤ 2 ^ 28 }
         ensures { (lines : List Line) → IfOk result (λ draft. IsDraftOf all draft lines 0) }
     {
-        let mut starts = Vec::with_capacity(alloc, room(all.counts.face_count, len / 4) + 1)?;
+        let mut starts = Vec::with_capacity(
+            alloc,
+            capacity_for(all.counts.face_count, len / 4) + 1,
+        )?;
         starts.push(0)?;
         Ok(Draft {
             positions: Positions {
-                points: Vec::with_capacity(alloc, room(all.counts.point_count, len / 8 + 1))?,
+                points: Vec::with_capacity(
+                    alloc,
+                    capacity_for(all.counts.point_count, len / 8 + 1),
+                )?,
                 long: None,
             },
             texture: TextureValues {
-                points: Vec::with_capacity(alloc, room(all.counts.texture_count, len / 5 + 1))?,
+                points: Vec::with_capacity(
+                    alloc,
+                    capacity_for(all.counts.texture_count, len / 5 + 1),
+                )?,
                 long: None,
             },
             faces: Faces {

@@ -1,8 +1,7 @@
-ghost use Rattle.std.specs.Prelude.{◌≡◌, ◌+◌, ◌^◌, ◌≤◌, ℕ, List, ◌∷◌, length, take, drop};
+ghost use Rattle.std.specs.Prelude.{◌≡◌, ◌+◌, ◌^◌, ◌≤◌, ℕ, List, ◌∷◌, length};
 ghost use Rattle.subdiv_model.specs.ObjLine.{line_words};
-ghost use Rattle.subdiv_model.specs.ReadObj.{is_dropped_line, least_values, counts_of, words_fault, fault_at};
-ghost use Rattle.obj_tags.specs.Draft.{IsDraftOf, HasRoom, IsLineAt};
-ghost use Rattle.obj_tags.specs.Kept.{KeptUnless};
+ghost use Rattle.subdiv_model.specs.ReadObj.{is_dropped_line, least_values};
+ghost use Rattle.obj_tags.specs.Draft.{HasCapacity, KeepsWords, KeepsLine};
 ghost use Rattle.obj_tags.specs.Keyword.{IsKeywordOf, IsReadAs, least_of};
 ghost use Rattle.obj_tags.specs.Line.{Line};
 ghost use Rattle.obj_tags.specs.Walk.{words_left};
@@ -86,14 +85,12 @@ fn keep_values(
     len: usize,
     words: &mut Words<'_>,
 ) -> Result<(), LineFault>
-    requires room { HasRoom draft.old all.counts (length (words_left words.old)) }
+    requires capacity { HasCapacity draft.old all.counts (length (words_left words.old)) }
     requires positions { all.positions.value ≤ 10 ^ 37 }
     requires texture { all.texture.value ≤ 10 ^ 37 }
     requires count { len ≡ length (words_left words.old) }
     requires enough { least_of keyword ≤ len }
-    ensures { (lines : List Line) (n : ℕ) (line : Line) → IsLineAt all.counts number lines n line → IsKeywordOf keyword line
-        → drop 1 line ≡ words_left words.old → IsDraftOf all draft.old lines n
-        → KeptUnless result (words_fault (counts_of (take n lines)) (counts_of lines) line) (λ _. IsDraftOf all draft.new lines (n + 1)) }
+    ensures { KeepsWords all number keyword (words_left words.old) draft.old draft.new result }
 {
     match keyword {
         Keyword::Position => {
@@ -122,9 +119,8 @@ pub(crate) fn keep_line(
     requires short { length line.now ≤ 2 ^ 28 }
     requires positions { all.positions.value ≤ 10 ^ 37 }
     requires texture { all.texture.value ≤ 10 ^ 37 }
-    requires room { HasRoom draft.old all.counts (length line.now) }
-    ensures { (lines : List Line) (n : ℕ) → IsLineAt all.counts number lines n (line_words line.now) → IsDraftOf all draft.old lines n
-        → KeptUnless result (fault_at lines n) (λ _. IsDraftOf all draft.new lines (n + 1)) }
+    requires capacity { HasCapacity draft.old all.counts (length line.now) }
+    ensures { KeepsLine all number (line_words line.now) draft.old draft.new result }
 {
     let mut words = words_of(line);
     let Some(first) = next_word(&mut words) else {

@@ -4,7 +4,7 @@ ghost use Rattle.subdiv_model.specs.ReadObj as model;
 ghost use Rattle.subdiv_model.specs.ReadObj.{read_obj_fault, read_obj_mesh};
 ghost use Rattle.obj_tags.specs.Channel as spec;
 ghost use Rattle.obj_tags.specs.Draft.{HasShortNumbers, IsDraftOf};
-ghost use Rattle.obj_tags.specs.Kept.{IsReadFault, TextKeptUnless};
+ghost use Rattle.obj_tags.specs.Kept.{IsReadFault, IsMeshRead, TextKeptUnless};
 ghost use Rattle.obj_tags.specs.Line.{Line};
 ghost use Rattle.raw_mesh.specs.Mesh.{IsWhole};
 ghost use Rattle.obj_tags.specs.Survey.{AreCommon};
@@ -74,7 +74,7 @@ fn finish(draft: Draft, all: Survey) -> Result<RawMesh, ReadFault>
     requires short { HasShortNumbers all draft }
     requires whole { IsWhole (length draft.positions.points.items) (length draft.texture.points.items) false draft.faces draft.tags }
     ensures { (lines : List Line) (least : ℕ) → AreCommon all least lines → IsDraftOf all draft lines (length lines)
-        → TextKeptUnless result (model.first_late_fault least lines) (λ mesh. mesh ≡ model.mesh_of_lines lines least) }
+        → IsMeshRead lines least result }
 {
     let Draft {
         positions,

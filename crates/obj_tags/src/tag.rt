@@ -1,10 +1,10 @@
-ghost use Rattle.std.specs.Prelude.{◌≡◌, ◌⊎◌, ◌+◌, ◌<◌, ◌≤◌, length, map, take, get_or, [], ◌∷◌, ◌++◌, codes, Some, MatchOption};
+ghost use Rattle.std.specs.Prelude.{◌≡◌, ◌⊎◌, ◌+◌, ◌<◌, ◌≤◌, length, get_or, [], ◌∷◌, ◌++◌, codes, Some, MatchOption};
 ghost use Rattle.subdiv_model.specs.ObjFault as model;
-ghost use Rattle.subdiv_model.specs.ObjTag.{tag_fault, tag_index_fault, mode_fault, method_fault, mode_of_word, method_of_word};
+ghost use Rattle.subdiv_model.specs.ObjTag.{tag_fault, mode_fault, method_fault, mode_of_word, method_of_word};
 ghost use Rattle.obj_tags.specs.View.{counts_of};
-ghost use Rattle.raw_mesh.specs.View.{boundary_of, crease_of, corner_tag_of};
+ghost use Rattle.raw_mesh.specs.View.{boundary_of};
 ghost use Rattle.obj_tags.specs.Kept.{KeptUnless};
-ghost use Rattle.obj_tags.specs.TagView.{value_fault, indices_said, sharpnesses_said, AreSaid, chain_creases, vertex_tags, IsBadTag, IsHeadOf};
+ghost use Rattle.obj_tags.specs.TagView.{value_fault, index_fault, indices_said, AreSaid, AddsChain, AddsCorners, IsBadTag, IsHeadOf};
 ghost use Rattle.obj_tags.specs.TagAdded.{AddsTag};
 ghost use Rattle.obj_tags.specs.Walk.{words_left};
 ghost use Rattle.sharpness_rules.specs.View.{method_of};
@@ -49,8 +49,7 @@ fn keep_crease(
     requires fit { (counts.numerals ≡ 1) ⊎ (counts.numerals + 1 ≡ counts.integers) }
     ensures { let read = words_left words.old in
         KeptUnless result (value_fault points counts read)
-        (λ _. map crease_of creases.new.items
-        ≡ map crease_of creases.old.items ++ chain_creases (indices_said counts read) (sharpnesses_said counts read)) }
+        (λ _. AddsChain counts read creases.old.items creases.new.items) }
 {
     let (vertices, values) = vertices_and_values(alloc, points, counts, words)?;
     add_chain(creases, vertices.as_slice(), values.as_slice())?;
@@ -69,8 +68,7 @@ fn keep_corners(
     requires fit { (counts.numerals ≡ 1) ⊎ (counts.numerals ≡ counts.integers) }
     ensures { let read = words_left words.old in
         KeptUnless result (value_fault points counts read)
-        (λ _. map corner_tag_of corners.new.items
-        ≡ map corner_tag_of corners.old.items ++ vertex_tags (indices_said counts read) (sharpnesses_said counts read)) }
+        (λ _. AddsCorners counts read corners.old.items corners.new.items) }
 {
     let (vertices, values) = vertices_and_values(alloc, points, counts, words)?;
     add_corners(corners, vertices.as_slice(), values.as_slice())?;
@@ -87,8 +85,7 @@ fn keep_holes(
 ) -> Result<(), LineFault>
     requires { counts.integers ≤ length (words_left words.old) }
     ensures { let read = words_left words.old in
-        KeptUnless result (model.first_cause (tag_index_fault faces) (take counts.integers read))
-        (λ _. holes.new.items ≡ holes.old.items ++ indices_said counts read) }
+        KeptUnless result (index_fault faces counts read) (λ _. holes.new.items ≡ holes.old.items ++ indices_said counts read) }
 {
     let found = indices(alloc, words, counts.integers, faces)?;
     holes.extend_from_slice(found.as_slice())?;

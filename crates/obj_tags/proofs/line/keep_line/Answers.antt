@@ -33,19 +33,19 @@ returns-then-len-least_words c = λ lines n at is.
     ap (line_fault (counts_of (take n lines)) (counts_of lines)) (at.here ∙ e)
     ∙ line-short (counts_of (take n lines)) (counts_of lines) c.in-Some.first.now rest last known.0 short
 
-pub keep_values-requires-clause-room : goal.keep_values-requires-clause-room
-keep_values-requires-clause-room c =
+pub keep_values-requires-clause-capacity : goal.keep_values-requires-clause-capacity
+keep_values-requires-clause-capacity c =
     let rest = words_left c.next_word.new.words in
     let e : line_words c.args.line.now ≡ c.in-Some.first.now ∷ rest = sym c.words_of-words.ensures ∙ c.in-Some.ensures in
     let size : length (line_words c.args.line.now) ≡ suc (length rest) = ap length e in
     let half = line-words-half c.args.line.now in
-    let room = c.requires.room in
-    let corners = room.corners in
+    let capacity = c.requires.capacity in
+    let corners = capacity.corners in
     record {
-      points = room.points;
-      textures = room.textures;
-      some = room.some;
-      faces = room.faces;
+      points = capacity.points;
+      textures = capacity.textures;
+      some = capacity.some;
+      faces = capacity.faces;
       corners = omega (arith, size, half, corners);
     }
 

@@ -7,7 +7,7 @@ use Rattle.obj_tags.specs.Draft.{IsDraftOf, IsLineAt}
 use Rattle.obj_tags.specs.Kept.{IsLineFault}
 use Rattle.obj_tags.specs.View.{cause_of}
 use Rattle.obj_tags.proofs.DraftLemmas.{corners-step}
-use Rattle.obj_tags.proofs.KeepLemmas.{kept-room}
+use Rattle.obj_tags.proofs.KeepLemmas.{kept-capacity}
 use Rattle.obj_tags.proofs.ReadLemmas.{next-line, at-end}
 use Rattle.obj_tags.proofs.read.keep_lines.Goals as goal
 
@@ -28,10 +28,10 @@ loop-line-init c =
 pub keep_line-requires-clause-short : goal.keep_line-requires-clause-short
 keep_line-requires-clause-short c = omega (arith, c.in-Some.ensures.parts, c.loop-line.invariant.bound, c.requires.short)
 
-pub keep_line-requires-clause-room : goal.keep_line-requires-clause-room
-keep_line-requires-clause-room c =
+pub keep_line-requires-clause-capacity : goal.keep_line-requires-clause-capacity
+keep_line-requires-clause-capacity c =
     let few : c.args.all.counts.face_count < 2 ^ 32 = search rules in
-    kept-room c.args.all c.loop-line.draft (map line_words (lines_of c.args.text.now)) c.loop-line.number (length c.in-Some.line.now) c.requires.counted few c.loop-line.invariant.kept (omega (arith, c.in-Some.ensures.parts, c.loop-line.invariant.corners, c.requires.short))
+    kept-capacity c.args.all c.loop-line.draft (map line_words (lines_of c.args.text.now)) c.loop-line.number (length c.in-Some.line.now) c.requires.counted few c.loop-line.invariant.kept (omega (arith, c.in-Some.ensures.parts, c.loop-line.invariant.corners, c.requires.short))
 
 pub returns-in-Err-Cause : goal.returns-in-Err-Cause
 returns-in-Err-Cause c =
