@@ -7,7 +7,7 @@ use Rattle.std.proofs.lemmas.List.{take_all, drop-drop, drop_more}
 use Rattle.far_io.specs.Buffer.{part}
 use Rattle.far_io.specs.Bytes.{Took, TookOne}
 use Rattle.far_io.specs.Lines.{is_lf, HasNoLf, IsClosed}
-use Rattle.far_io.specs.Text.{TextInput, passed, IsBetween, IsPending, IsNextText, IsCountedText, ReadsText, ReadsOnText, ReadsMoreText, IsKept, IsTextPlaced}
+use Rattle.far_io.specs.Text.{TextInput, passed, IsBetweenLines, IsPending, IsNextText, IsCountedText, ReadsText, ReadsOnText, ReadsMoreText, IsKept, IsTextPlaced}
 use Rattle.far_io.specs.declared.source.InputFault.{InputFault}
 use Rattle.far_io.specs.declared.source.InputFault.TheVariants.{Read, Long, Memory}
 use Rattle.far_io.specs.declared.source.Source.{Ghosts}
@@ -57,7 +57,7 @@ text-end bytes pending from k n same found one =
     ∙ ap (λ b. b ∷ []) (lf-at (drop from bytes) k is)
 
 -- A reader between lines is behind all that it passed.
-pub passed-between : (a : TextInput) → IsBetween a → a.before ≡ passed a
+pub passed-between : (a : TextInput) → IsBetweenLines a → a.before ≡ passed a
 passed-between a between =
     sym (append-nil a.before) ∙ ap (λ r. a.before ++ r) (sym (ap (λ r. r ++ a.end) between.line ∙ between.end))
 
@@ -103,7 +103,7 @@ counted-later a b c bytes more (Err Memory) h k = omega (arith, h, k, length-app
 
 module _ {S : Type 0} {source : Ghosts S} where
   -- Before the first read nothing came, and all passed bytes were passed earlier.
-  pub text-at-first : (a b : TextInput) (s : S) → b.pending ≡ a.pending → HasNoLf b.pending → IsBetween b → b.before ≡ passed a → b.allowed ≡ a.allowed →
+  pub text-at-first : (a b : TextInput) (s : S) → b.pending ≡ a.pending → HasNoLf b.pending → IsBetweenLines b → b.before ≡ passed a → b.allowed ≡ a.allowed →
       ReadsOnText source a b s s
   text-at-first a b s same plain between before allowed = record {
     bytes = [];
@@ -139,7 +139,7 @@ module _ {S : Type 0} {source : Ghosts S} where
   }
 
   -- one byte came that is not allowed
-  pub too-long : (a : TextInput) (s t : S) → a.allowed ≡ 0 → HasNoLf a.pending → IsBetween a → TookOne (source.left s) (source.left t) →
+  pub too-long : (a : TextInput) (s t : S) → a.allowed ≡ 0 → HasNoLf a.pending → IsBetweenLines a → TookOne (source.left s) (source.left t) →
       source.faults s ≤ source.faults t → ReadsText source a a s t (Err Long)
   too-long a s t none plain between one later = record {
     bytes = one.0 ∷ [];

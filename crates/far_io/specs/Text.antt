@@ -26,20 +26,20 @@ abbrev pub passed : TextInput → List ℕ
 passed text = text.before ++ (text.line ++ text.end)
 
 -- The reader is between lines: its line and end are empty.
-pub record IsBetween (text : TextInput) : Type 0 where
+pub record IsBetweenLines (text : TextInput) : Type 0 where
   pub line : text.line ≡ []
   pub end : text.end ≡ []
 
 -- The bytes that came were added behind the pending ones, and all of them contain no LF.
 abbrev pub IsPending : List ℕ → TextInput → List ℕ → Type 0
-IsPending pending new bytes = (pending ++ bytes ≡ new.pending) × HasNoLf new.pending × IsBetween new
+IsPending pending new bytes = (pending ++ bytes ≡ new.pending) × HasNoLf new.pending × IsBetweenLines new
 
 -- The result of `next`, by the bytes pending before, the bytes that came, and the bytes the source has left.
 abbrev pub IsNextText : List ℕ → TextInput → List ℕ → Option (List ℕ) → Result NextText InputFault → Type 0
 IsNextText pending new bytes left (Ok Closed) = IsClosed (pending ++ bytes) new.line new.pending × (new.end ≡ 10 ∷ [])
 IsNextText pending new bytes left (Ok Last) =
     (pending ++ bytes ≡ new.line) × HasNoLf new.line × (0 < length new.line) × (new.end ≡ []) × (new.pending ≡ []) × IsDry left
-IsNextText pending new bytes left (Ok End) = (pending ++ bytes ≡ []) × IsBetween new × (new.pending ≡ []) × IsDry left
+IsNextText pending new bytes left (Ok End) = (pending ++ bytes ≡ []) × IsBetweenLines new × (new.pending ≡ []) × IsDry left
 IsNextText pending new bytes left (Err Read) = IsPending pending new bytes
 IsNextText pending new bytes left (Err Long) = (kept : List ℕ) × (byte : ℕ) × (bytes ≡ kept ++ (byte ∷ [])) × IsPending pending new kept
 IsNextText pending new bytes left (Err Memory) = (kept last : List ℕ) × (bytes ≡ kept ++ last) × (length last ≤ 4096) × IsPending pending new kept

@@ -4,7 +4,7 @@ ghost use Rattle.far_io.specs.declared.source.InputFault.TheVariants.{Read, Memo
 ghost use Rattle.far_io.specs.declared.text.NextText.{NextText};
 ghost use Rattle.far_io.specs.Bytes.{Rose, Took, TookOne, IsDry};
 ghost use Rattle.far_io.specs.Lines.{is_lf, HasNoLf, IsClosed};
-ghost use Rattle.far_io.specs.Text.{TextInput, passed, IsBetween, IsNextText, IsCountedText, ReadsText, ReadsMoreText, IsKept};
+ghost use Rattle.far_io.specs.Text.{TextInput, passed, IsBetweenLines, IsNextText, IsCountedText, ReadsText, ReadsMoreText, IsKept};
 
 use crate::part::{first_lf, has_more, read_within};
 use crate::{InputFault, ReadFailed, Source};
@@ -123,7 +123,7 @@ impl TextReader {
     // Reads up to the end of the line.
     fn read_line<S: Source>(&mut self, source: &mut S) -> Result<NextText, InputFault>
         requires plain { HasNoLf self.old.pending }
-        requires between { IsBetween self.old }
+        requires between_lines { IsBetweenLines self.old }
         ensures reads { ReadsText S.Source self.old self.new source.old source.new result }
         ensures few { OnOk result (length self.new.pending ≤ 4096) }
     {
@@ -144,7 +144,7 @@ impl TextReader {
         requires some { 0 < length piece.old }
         requires few { length piece.old ≤ 4096 }
         requires plain { HasNoLf self.old.pending }
-        requires between { IsBetween self.old }
+        requires between_lines { IsBetweenLines self.old }
         ensures reads { ReadsMoreText S.Source self.old self.new source.old source.new result }
         ensures few { (found : NextText) → result ≡ Ok (Some found) → length self.new.pending ≤ 4096 }
     {
@@ -164,7 +164,7 @@ impl TextReader {
         requires some { 0 < length piece.old }
         requires few { length piece.old ≤ 4096 }
         requires plain { HasNoLf self.old.pending }
-        requires between { IsBetween self.old }
+        requires between_lines { IsBetweenLines self.old }
         ensures reads { ReadsMoreText S.Source self.old self.new source.old source.new result }
         ensures few { (found : NextText) → result ≡ Ok (Some found) → length self.new.pending ≤ 4096 }
     {
@@ -180,7 +180,7 @@ impl TextReader {
     fn past_bound<S: Source>(&mut self, source: &mut S) -> Result<Option<NextText>, InputFault>
         requires none { self.old.allowed ≡ 0 }
         requires plain { HasNoLf self.old.pending }
-        requires between { IsBetween self.old }
+        requires between_lines { IsBetweenLines self.old }
         ensures reads { ReadsMoreText S.Source self.old self.new source.old source.new result }
         ensures few { (found : NextText) → result ≡ Ok (Some found) → length self.new.pending ≤ 4096 }
     {
@@ -193,7 +193,7 @@ impl TextReader {
     // Keeps a piece, and moves to the next line if its LF is now pending.
     fn keep(&mut self, piece: &[u8]) -> Result<Option<NextText>, InputFault>
         requires plain { HasNoLf self.old.pending }
-        requires between { IsBetween self.old }
+        requires between_lines { IsBetweenLines self.old }
         ensures kept { IsKept self.old.pending self.new piece.now result }
         ensures before { self.new.before ≡ passed self.old }
         ensures allowed { self.new.allowed ≡ self.old.allowed }
@@ -225,7 +225,7 @@ impl TextReader {
         ensures end { result ≡ true → self.new.end ≡ 10 ∷ [] }
         ensures same { result ≡ false → self.new.pending ≡ self.old.pending }
         ensures plain { result ≡ false → HasNoLf self.new.pending }
-        ensures between { result ≡ false → IsBetween self.new }
+        ensures between_lines { result ≡ false → IsBetweenLines self.new }
         ensures before { self.new.before ≡ passed self.old }
         ensures allowed { self.new.allowed ≡ self.old.allowed }
     {
