@@ -39,7 +39,7 @@ digits-behind old new digits at start end e f written before =
     ∙ ap (λ xs. take start old ++ xs) (take-append_seam digits (drop end old))
     ∙ ap (λ n. take n old ++ digits) same
 
--- they have room where 20 more bytes have
-pub digits-room : (bytes waiting : List ℕ) (at count : ℕ) → take at bytes ≡ waiting → at ≤ 4096 → length bytes ≡ 4096 → length waiting + 20 ≤ 4096 → count ≤ 20 →
+-- they fit where 20 more bytes fit
+pub digits-fit : (bytes waiting : List ℕ) (at count : ℕ) → take at bytes ≡ waiting → at ≤ 4096 → length bytes ≡ 4096 → length waiting + 20 ≤ 4096 → count ≤ 20 →
     at + count ≤ length bytes
-digits-room bytes waiting at count e within whole room few = omega (arith, ap length e, length-take at bytes, within, whole, room, few)
+digits-fit bytes waiting at count e within whole fits few = omega (arith, ap length e, length-take at bytes, within, whole, fits, few)

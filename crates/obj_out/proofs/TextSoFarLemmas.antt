@@ -29,10 +29,10 @@ prefix-more start old new waited before text p q =
     )
 
 -- A text put behind the waiting text, after a call that put nothing.
-pub put-behind : (old new : Option (List ℕ)) (waited between waits text : List ℕ) → IsTextSoFar old new between (waited ++ []) → waits ≡ between ++ text →
+pub put-behind : (old new : Option (List ℕ)) (waited middle waits text : List ℕ) → IsTextSoFar old new middle (waited ++ []) → waits ≡ middle ++ text →
     IsTextSoFar old new waits (waited ++ text)
-put-behind old new waited between waits text p e = (
+put-behind old new waited middle waits text p e = (
   p.0,
   p.1,
-  ap (λ r. p.0 ++ r) e ∙ sym (append_assoc p.0 between text) ∙ ap (λ r. r ++ text) (p.2 ∙ append-nil waited),
+  ap (λ r. p.0 ++ r) e ∙ sym (append_assoc p.0 middle text) ∙ ap (λ r. r ++ text) (p.2 ∙ append-nil waited),
 )

@@ -12,7 +12,7 @@ use ratio128::Frac;
 impl Waiting {
     // A whole number.
     pub(crate) fn push_number(&mut self, n: u64)
-        requires room { length self.old + 40 ≤ 4096 }
+        requires fits { length self.old + 40 ≤ 4096 }
         ensures text { self.new ≡ self.old ++ number_text n }
         ensures short { length self.new ≤ length self.old + 40 }
     {
@@ -21,7 +21,7 @@ impl Waiting {
 
     // A byte, then a whole number.
     pub(crate) fn push_number_after(&mut self, byte: u8, n: u64)
-        requires room { length self.old + 41 ≤ 4096 }
+        requires fits { length self.old + 41 ≤ 4096 }
         ensures { self.new ≡ self.old ++ (byte ∷ number_text n) }
     {
         self.push_byte(byte);
@@ -30,7 +30,7 @@ impl Waiting {
 
     // A whole number of up to 128 bits; most fit 64.
     pub(crate) fn push_wide(&mut self, n: u128)
-        requires room { length self.old + 40 ≤ 4096 }
+        requires fits { length self.old + 40 ≤ 4096 }
         ensures text { self.new ≡ self.old ++ number_text n }
         ensures short { length self.new ≤ length self.old + 40 }
     {
@@ -43,7 +43,7 @@ impl Waiting {
 
     // A whole number of up to 128 bits, in 128-bit arithmetic.
     fn push_long(&mut self, n: u128)
-        requires room { length self.old + 40 ≤ 4096 }
+        requires fits { length self.old + 40 ≤ 4096 }
         ensures text { self.new ≡ self.old ++ number_text n }
         ensures short { length self.new ≤ length self.old + 40 }
     {
@@ -53,7 +53,7 @@ impl Waiting {
 
     // The numerator, then a slash and the denominator unless the denominator is 1.
     fn push_ratio(&mut self, num: u128, den: u128)
-        requires room { length self.old + 81 ≤ 4096 }
+        requires fits { length self.old + 81 ≤ 4096 }
         ensures { self.new ≡ self.old ++ ratio_text (num, den) }
     {
         self.push_wide(num);
@@ -65,7 +65,7 @@ impl Waiting {
 
     // `-` for a negative number.
     fn push_sign(&mut self, num: i128)
-        requires room { length self.old + 1 ≤ 4096 }
+        requires fits { length self.old + 1 ≤ 4096 }
         ensures text { self.new ≡ self.old ++ sign_text num }
         ensures short { length self.new ≤ length self.old + 1 }
     {
@@ -76,7 +76,7 @@ impl Waiting {
 
     // A fraction in lowest terms, whatever its terms are.
     pub(crate) fn push_frac(&mut self, f: &Frac)
-        requires room { length self.old + 82 ≤ 4096 }
+        requires fits { length self.old + 82 ≤ 4096 }
         requires positive { 0 < f.now.den }
         requires kept { unsigned_abs f.now.num < 2 ^ 127 }
         ensures { self.new ≡ self.old ++ fraction_text f.now.num f.now.den }
@@ -88,7 +88,7 @@ impl Waiting {
 
     // A byte, then a fraction in lowest terms.
     pub(crate) fn push_frac_after(&mut self, byte: u8, f: &Frac)
-        requires room { length self.old + 83 ≤ 4096 }
+        requires fits { length self.old + 83 ≤ 4096 }
         requires positive { 0 < f.now.den }
         requires kept { unsigned_abs f.now.num < 2 ^ 127 }
         ensures { self.new ≡ self.old ++ (byte ∷ fraction_text f.now.num f.now.den) }
@@ -99,7 +99,7 @@ impl Waiting {
 
     // A fraction rounded to `digits` decimals, half to even.
     pub(crate) fn push_rounded(&mut self, f: &Frac, digits: u32)
-        requires room { length self.old + 60 ≤ 4096 }
+        requires fits { length self.old + 60 ≤ 4096 }
         requires positive { 0 < f.now.den }
         requires kept { unsigned_abs f.now.num < 2 ^ 127 }
         requires bounded { f.now.den < 2 ^ 126 }
@@ -113,7 +113,7 @@ impl Waiting {
 
     // A byte, then a rounded fraction.
     pub(crate) fn push_rounded_after(&mut self, byte: u8, f: &Frac, digits: u32)
-        requires room { length self.old + 61 ≤ 4096 }
+        requires fits { length self.old + 61 ≤ 4096 }
         requires positive { 0 < f.now.den }
         requires kept { unsigned_abs f.now.num < 2 ^ 127 }
         requires bounded { f.now.den < 2 ^ 126 }
@@ -126,7 +126,7 @@ impl Waiting {
 
     // `-` for a negative number that does not round to 0.
     fn push_rounded_sign(&mut self, num: i128, number: &Decimal, digits: u32)
-        requires room { length self.old + 1 ≤ 4096 }
+        requires fits { length self.old + 1 ≤ 4096 }
         ensures text { self.new ≡ self.old ++ rounded_sign num (number.now.whole * 10 ^ digits + number.now.units) }
         ensures short { length self.new ≤ length self.old + 1 }
     {
@@ -137,7 +137,7 @@ impl Waiting {
 
     // A number with `digits` decimals, with a point before them unless there are none.
     fn push_decimal(&mut self, number: &Decimal, digits: u32)
-        requires room { length self.old + 59 ≤ 4096 }
+        requires fits { length self.old + 59 ≤ 4096 }
         requires few { digits ≤ 18 }
         requires units { number.now.units < 10 ^ digits }
         ensures { self.new ≡ self.old ++ decimal_text digits (number.now.whole * 10 ^ digits + number.now.units) }
@@ -151,7 +151,7 @@ impl Waiting {
 
     // The last `digits` digits of a number that has no more: the digits after the leading 1 of 10^digits + n.
     fn push_last_digits(&mut self, n: u64, digits: u32)
-        requires room { length self.old + digits ≤ 4096 }
+        requires fits { length self.old + digits ≤ 4096 }
         requires few { digits ≤ 18 }
         requires below { n < 10 ^ digits }
         ensures { self.new ≡ self.old ++ last_digits digits n }
@@ -162,7 +162,7 @@ impl Waiting {
 
     // A text without its first byte.
     fn push_behind_first(&mut self, text: &[u8])
-        requires room { length self.old + length text.now ≤ 4097 }
+        requires fits { length self.old + length text.now ≤ 4097 }
         ensures { self.new ≡ self.old ++ drop 1 text.now }
     {
         if let [_, rest @ ..] = text {

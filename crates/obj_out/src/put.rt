@@ -39,7 +39,7 @@ impl<'a, K: Sink> Out<'a, K> {
         if self.failed {
             return Err(WriteFailed);
         }
-        if text.len() <= self.waiting.room() {
+        if text.len() <= self.waiting.free_bytes() {
             self.waiting.push(text);
             return Ok(());
         }
@@ -52,7 +52,7 @@ impl<'a, K: Sink> Out<'a, K> {
     pub fn put_byte(&mut self, byte: u8) -> Result<(), WriteFailed>
         ensures { Puts K.Sink self.old self.new (byte ∷ []) result }
     {
-        if self.failed || self.waiting.room() == 0 {
+        if self.failed || self.waiting.free_bytes() == 0 {
             return self.put_bytes(&[byte]);
         }
         self.waiting.push_byte(byte);
@@ -63,7 +63,7 @@ impl<'a, K: Sink> Out<'a, K> {
     pub fn put_number(&mut self, n: u64) -> Result<(), WriteFailed>
         ensures { Puts K.Sink self.old self.new (number_text n) result }
     {
-        self.make_room()?;
+        self.reserve()?;
         self.waiting.push_number(n);
         Ok(())
     }
@@ -72,7 +72,7 @@ impl<'a, K: Sink> Out<'a, K> {
     pub fn put_number_after(&mut self, byte: u8, n: u64) -> Result<(), WriteFailed>
         ensures { Puts K.Sink self.old self.new (byte ∷ number_text n) result }
     {
-        self.make_room()?;
+        self.reserve()?;
         self.waiting.push_number_after(byte, n);
         Ok(())
     }
@@ -81,7 +81,7 @@ impl<'a, K: Sink> Out<'a, K> {
     pub fn put_wide(&mut self, n: u128) -> Result<(), WriteFailed>
         ensures { Puts K.Sink self.old self.new (number_text n) result }
     {
-        self.make_room()?;
+        self.reserve()?;
         self.waiting.push_wide(n);
         Ok(())
     }
@@ -120,7 +120,7 @@ impl<'a, K: Sink> Out<'a, K> {
         requires kept { unsigned_abs f.now.num < 2 ^ 127 }
         ensures { Puts K.Sink self.old self.new (fraction_text f.now.num f.now.den) result }
     {
-        self.make_room()?;
+        self.reserve()?;
         self.waiting.push_frac(f);
         Ok(())
     }
@@ -133,7 +133,7 @@ impl<'a, K: Sink> Out<'a, K> {
         requires kept { unsigned_abs f.now.num < 2 ^ 127 }
         ensures { Puts K.Sink self.old self.new (byte ∷ fraction_text f.now.num f.now.den) result }
     {
-        self.make_room()?;
+        self.reserve()?;
         self.waiting.push_frac_after(byte, f);
         Ok(())
     }
@@ -149,7 +149,7 @@ impl<'a, K: Sink> Out<'a, K> {
         requires kept { unsigned_abs f.now.num < 2 ^ 127 }
         ensures { Puts K.Sink self.old self.new (rounded_text digits f.now.num f.now.den) result }
     {
-        self.make_room()?;
+        self.reserve()?;
         self.waiting.push_rounded(f, digits);
         Ok(())
     }
@@ -164,7 +164,7 @@ impl<'a, K: Sink> Out<'a, K> {
         requires kept { unsigned_abs f.now.num < 2 ^ 127 }
         ensures { Puts K.Sink self.old self.new (byte ∷ rounded_text digits f.now.num f.now.den) result }
     {
-        self.make_room()?;
+        self.reserve()?;
         self.waiting.push_rounded_after(byte, f, digits);
         Ok(())
     }
@@ -189,14 +189,14 @@ impl<'a, K: Sink> Out<'a, K> {
     }
 
     // Makes space for the text of one number.
-    fn make_room(&mut self) -> Result<(), WriteFailed>
+    fn reserve(&mut self) -> Result<(), WriteFailed>
         ensures puts { Puts K.Sink self.old self.new [] result }
-        ensures room { OnOk result (length self.new.waiting + 128 ≤ 4096) }
+        ensures free { OnOk result (length self.new.waiting + 128 ≤ 4096) }
     {
         if self.failed {
             return Err(WriteFailed);
         }
-        if self.waiting.room() >= 128 {
+        if self.waiting.free_bytes() >= 128 {
             return Ok(());
         }
         self.hand_on()
@@ -226,7 +226,7 @@ impl<'a, K: Sink> Out<'a, K> {
         requires empty { self.old.waiting ≡ [] }
         ensures { Puts K.Sink self.old self.new text.now result }
     {
-        if text.len() <= self.waiting.room() {
+        if text.len() <= self.waiting.free_bytes() {
             self.waiting.push(text);
             return Ok(());
         }

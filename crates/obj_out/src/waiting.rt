@@ -32,7 +32,7 @@ impl Waiting {
 
     // How many more bytes fit.
     #[inline]
-    pub(crate) fn room(&self) -> usize
+    pub(crate) fn free_bytes(&self) -> usize
         ensures { result + length self.now ≡ 4096 }
     {
         4096 - self.len

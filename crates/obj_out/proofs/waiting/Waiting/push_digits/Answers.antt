@@ -1,11 +1,11 @@
 use Rattle.std.proofs.Common.{arith, ap, ◌∙◌, ◌+◌, ◌++◌, decimal}
-use Rattle.obj_out.proofs.DigitsLemmas.{digits-behind, digits-room}
+use Rattle.obj_out.proofs.DigitsLemmas.{digits-behind, digits-fit}
 use Rattle.obj_out.proofs.waiting.Waiting.push_digits.Goals as goal
 
 pub write_digits-requires : goal.write_digits-requires
 write_digits-requires c = (
   omega (arith, c.digits_of.ensures.count),
-  digits-room c.self.inside.bytes c.args.self.now c.self.inside.len c.digits_of.result c.self.view_is c.self.invariant c.self.told c.requires c.digits_of.ensures.few,
+  digits-fit c.self.inside.bytes c.args.self.now c.self.inside.len c.digits_of.result c.self.view_is c.self.invariant c.self.told c.requires c.digits_of.ensures.few,
 )
 
 pub returns : goal.returns

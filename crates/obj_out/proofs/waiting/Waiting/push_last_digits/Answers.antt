@@ -8,7 +8,7 @@ overflow_add-pow c = record { fits = omega (arith, power-short c.args.digits c.a
 pub push_behind_first-requires : goal.push_behind_first-requires
 push_behind_first-requires c =
     let text = written-with-one c.args.digits c.args.n _ _ c.requires.few c.requires.below c.pow.ensures (c.as_bytes.ensures.value ∙ c.format.ensures.text) in
-    omega (arith, c.requires.room, length-with-one c.args.digits c.args.n _ text)
+    omega (arith, c.requires.fits, length-with-one c.args.digits c.args.n _ text)
 
 pub returns : goal.returns
 returns c =
