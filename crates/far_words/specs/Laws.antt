@@ -1,7 +1,8 @@
 -- The subjects of the laws of words: reordered words, words with a bad one, and understood words.
-use Rattle.std.specs.Prelude.{◌≡◌, ℕ, List, ◌∷◌, Some, None}
+use Rattle.std.specs.Prelude.{◌≡◌, ℕ, Bool, ◌&&◌, List, ◌∷◌, Some, None, bytes_eq}
+use Rattle.std.specs.List.{list_any}
 use Rattle.std.specs.List.Sorted.{IsPermutation}
-use Rattle.far_model.specs.Words.{CommandRule, rule_named, usage_of}
+use Rattle.far_model.specs.Words.{CommandRule, is_value, rule_named, usage_of}
 
 -- A command that is understood with its options, and the same options in another order.
 pub record ReorderedWords : Type 0 where
@@ -30,3 +31,7 @@ pub record UnderstoodWords : Type 0 where
   pub rule : CommandRule
   pub named : rule_named table command ≡ Some rule
   pub understood : usage_of table (command ∷ options) ≡ None
+
+-- An option of the rule has this name and allows this value.
+abbrev pub allows : CommandRule → List ℕ → List ℕ → Bool
+allows rule name value = list_any (λ option. bytes_eq name option.name && is_value option.kind value) rule.options

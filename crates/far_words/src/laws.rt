@@ -1,10 +1,10 @@
 //! Laws of the options of a command: their order, their values, and the place of the first bad word.
 
-ghost use Rattle.std.specs.Prelude.{◌≡◌, ℕ, ◌+◌, ◌≤◌, not, ◌&&◌, ◌||◌, List, ◌∷◌, length, is_some, bytes_eq, Some, None, IsTrue};
-ghost use Rattle.std.specs.List.{list_all, list_any};
-ghost use Rattle.far_model.specs.Words.{is_value, usage_of, value_of};
+ghost use Rattle.std.specs.Prelude.{◌≡◌, ℕ, ◌+◌, ◌≤◌, not, ◌||◌, List, ◌∷◌, length, is_some, Some, None, IsTrue};
+ghost use Rattle.std.specs.List.{list_all};
+ghost use Rattle.far_model.specs.Words.{usage_of, value_of};
 ghost use Rattle.far_model.specs.Command.{read_words_by};
-ghost use Rattle.far_words.specs.Laws.{RefusedWords, ReorderedWords, UnderstoodWords};
+ghost use Rattle.far_words.specs.Laws.{RefusedWords, ReorderedWords, UnderstoodWords, allows};
 
 /// The order of the options does not change the command.
 pub fn options_go_in_any_order()
@@ -21,7 +21,7 @@ pub fn bad_words_come_early()
 /// Every option of an understood command has a value that the table allows, and every required option has a value.
 pub fn values_are_allowed()
     ensures allowed { (words : UnderstoodWords) (name value : List ℕ) → value_of words.options name ≡ Some value
-        → IsTrue (list_any (λ option. bytes_eq name option.name && is_value option.kind value) words.rule.options) }
+        → IsTrue (allows words.rule name value) }
     ensures required { (words : UnderstoodWords)
         → IsTrue (list_all (λ option. not option.required || is_some (value_of words.options option.name)) words.rule.options) }
 {}

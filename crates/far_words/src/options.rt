@@ -12,7 +12,7 @@ use crate::number::read_number;
 use crate::table::{OptionRule, ValueKind};
 
 // Whether the value is a number from `least` to `greatest`.
-fn is_between(least: u32, greatest: u32, value: &str) -> bool
+fn is_number_in_range(least: u32, greatest: u32, value: &str) -> bool
     ensures { result ≡ model.is_value (Between least greatest) value.now }
 {
     match read_number(value.as_bytes()) {
@@ -40,7 +40,7 @@ fn is_value(kind: &ValueKind, value: &str) -> bool
     ensures { result ≡ model.is_value (kind_of_code kind.now) value.now }
 {
     match *kind {
-        ValueKind::Between { least, greatest } => is_between(least, greatest, value),
+        ValueKind::Between { least, greatest } => is_number_in_range(least, greatest, value),
         ValueKind::OneOf(names) => is_one_of(names, value),
     }
 }

@@ -1,7 +1,7 @@
 use Rattle.std.proofs.Common.{rules, arith, sym, ◌∙◌, ap}
 use Rattle.far_words.specs.Table.{u32_of_word}
 use Rattle.far_words.proofs.NumberLemmas.{not-between}
-use Rattle.far_words.proofs.options.is_between.Goals as goal
+use Rattle.far_words.proofs.options.is_number_in_range.Goals as goal
 
 pub returns-in-None : goal.returns-in-None
 returns-in-None c =
