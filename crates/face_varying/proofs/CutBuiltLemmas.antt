@@ -41,13 +41,13 @@ module _ (mesh : ObjMesh) (mode : SeamMode) (level : Level) (base : level ≡ ba
       (replicate (cut_point_count mesh) false)
 
   -- only the points
-  pub points-there : (points : ℕ) (alone : Built) → points ≡ cut_point_count mesh → alone ≡ only_points points level.method → alone ≡ only_points (cut_point_count mesh) (base_level mesh).method
-  points-there points alone count is = is ∙ ap (λ (n : ℕ). only_points n level.method) count ∙ ap (λ (l : Level). only_points (cut_point_count mesh) l.method) base
+  pub points-there : (points : ℕ) (points_only : Built) → points ≡ cut_point_count mesh → points_only ≡ only_points points level.method → points_only ≡ only_points (cut_point_count mesh) (base_level mesh).method
+  points-there points points_only count is = is ∙ ap (λ (n : ℕ). only_points n level.method) count ∙ ap (λ (l : Level). only_points (cut_point_count mesh) l.method) base
 
   -- with the faces
-  pub faces-there : (numbers : List ℕ) (alone faces : Built) → numbers ≡ corner_numbers mesh → alone ≡ only_points (cut_point_count mesh) (base_level mesh).method
-      → faces ≡ smooth_built alone.level.point_count alone.level.method (cut_by level.polygons numbers) level.holes → faces ≡ faced
-  faces-there numbers alone faces are before is =
+  pub faces-there : (numbers : List ℕ) (points_only faces : Built) → numbers ≡ corner_numbers mesh → points_only ≡ only_points (cut_point_count mesh) (base_level mesh).method
+      → faces ≡ smooth_built points_only.level.point_count points_only.level.method (cut_by level.polygons numbers) level.holes → faces ≡ faced
+  faces-there numbers points_only faces are before is =
       is
       ∙ ap (λ (b : Built). smooth_built b.level.point_count b.level.method (cut_by level.polygons numbers) level.holes) before
       ∙ ap (λ (ps : List Polygon). smooth_built (cut_point_count mesh) (base_level mesh).method ps level.holes) (cut-is-faces mesh level base numbers are)
@@ -142,8 +142,8 @@ module _ {mesh : ObjMesh} {mode : SeamMode} {level : Level} {apart : List Bool} 
   few-points = omega (arith, point-count, point-few mesh, ap (λ (faces : List Polygon). sum_by length faces) faces-are, are.small.corners)
 
   -- the conditions on the faces
-  pub parts-fit : (alone : Built) → alone ≡ only_points (length vertices) level.method → AreFit alone.level.point_count (cut_by level.polygons numbers)
-  parts-fit alone is = cut-fit mesh level are.base numbers alone.level.point_count are.manifold are.small are.numbers_are (ap (λ (b : Built). b.level.point_count) is ∙ point-count)
+  pub parts-fit : (points_only : Built) → points_only ≡ only_points (length vertices) level.method → AreFit points_only.level.point_count (cut_by level.polygons numbers)
+  parts-fit points_only is = cut-fit mesh level are.base numbers points_only.level.point_count are.manifold are.small are.numbers_are (ap (λ (b : Built). b.level.point_count) is ∙ point-count)
 
   -- there is a number for each corner
   pub parts-numbers : length numbers ≡ sum_by length level.polygons
@@ -166,15 +166,15 @@ module _ {mesh : ObjMesh} {mode : SeamMode} {level : Level} {apart : List Bool} 
   parts-vertices = vertices-within mesh level are.base vertices are.within are.vertices_are
 
   -- the builder that has only the points is the one with their number
-  pub alone-itself : (alone : Built) → alone ≡ only_points (length vertices) level.method → alone ≡ only_points alone.level.point_count alone.level.method
-  alone-itself alone is = is ∙ ap (λ (b : Built). only_points b.level.point_count b.level.method) (sym is)
+  pub points-only-itself : (points_only : Built) → points_only ≡ only_points (length vertices) level.method → points_only ≡ only_points points_only.level.point_count points_only.level.method
+  points-only-itself points_only is = is ∙ ap (λ (b : Built). only_points b.level.point_count b.level.method) (sym is)
 
   -- the sides with their sharpness
-  pub with-sides : (alone faces sides : Built) → alone ≡ only_points (length vertices) level.method → faces ≡ smooth_built alone.level.point_count alone.level.method (cut_by level.polygons numbers) level.holes
+  pub with-sides : (points_only faces sides : Built) → points_only ≡ only_points (length vertices) level.method → faces ≡ smooth_built points_only.level.point_count points_only.level.method (cut_by level.polygons numbers) level.holes
       → sides ≡ with_sides (sides_before level apart numbers (length level.polygons)) faces → sides ≡ sided mesh mode level are.base
-  with-sides alone faces sides is_alone is_faces is_sides =
+  with-sides points_only faces sides is_points is_faces is_sides =
       sides-there mesh mode level are.base apart numbers faces sides (all-simple (length mesh.points) mesh.faces are.manifold) are.manifold.sides_once are.apart_are are.numbers_are
-      (faces-there mesh mode level are.base numbers alone faces are.numbers_are (points-there mesh mode level are.base (length vertices) alone point-count is_alone) is_faces) is_sides
+      (faces-there mesh mode level are.base numbers points_only faces are.numbers_are (points-there mesh mode level are.base (length vertices) points_only point-count is_points) is_faces) is_sides
 
   -- the sides change no number of points
   pub sides-points : (sides : Built) → sides ≡ sided mesh mode level are.base → sides.level.point_count ≡ length vertices

@@ -79,8 +79,8 @@ module _ (mesh : ObjMesh) (t : Topology) (cuttable : IsCuttable mesh t) (is : Is
       not_boundary : is_boundary mesh.faces (edge_at t.level.polygons e) ≡ false
       not_boundary =
           ap (λ (polygons : List Polygon). is_boundary polygons (edge_at t.level.polygons e)) (sym (same-faces mesh t cuttable))
-          ∙ false_from_ne_true _ (λ alone.
-          other (distinct-places (get_or t.faces_at v []) i j (faces-once t v is inside) hi hj (one-among (face i) (face j) (faces_of_edge t.level.polygons (edge_at t.level.polygons e)) (eqb-true _ _ alone) (edge-all t.level.polygons e (face i) ∙ edge.has_f) (edge-all t.level.polygons e (face j) ∙ edge.has_g))))
+          ∙ false_from_ne_true _ (λ points_only.
+          other (distinct-places (get_or t.faces_at v []) i j (faces-once t v is inside) hi hj (one-among (face i) (face j) (faces_of_edge t.level.polygons (edge_at t.level.polygons e)) (eqb-true _ _ points_only) (edge-all t.level.polygons e (face i) ∙ edge.has_f) (edge-all t.level.polygons e (face j) ∙ edge.has_g))))
 
       not_cut : (k : ℕ) → k < edge_count mesh t cuttable is v inside → e ≡ edge_in mesh t cuttable is v inside k → is_cut t apart v k ≡ false
       not_cut k h at =

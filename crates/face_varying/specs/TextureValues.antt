@@ -1,5 +1,6 @@
 -- The texture values of corners and of channel points.
 use Rattle.std.specs.Prelude.{ℕ, ℤ, pos, List, map, get_or}
+use Rattle.ratio128.specs.declared.point.Point2.{Point2}
 use Rattle.raw_mesh.specs.View.{texture_of}
 use Rattle.face_varying.specs.declared.points.ChannelPoints.{ChannelPoints}
 use Rattle.subdiv_model.specs.ObjMesh.{ObjMesh}
@@ -16,3 +17,7 @@ value_of mesh point = value_at mesh.texture (texture_number mesh point.1 point.0
 -- the texture values of all points so far
 abbrev pub texture_values : ChannelPoints → List (ℤ × ℤ)
 texture_values points = map texture_of points.values.items
+
+-- the texture values with these numbers
+abbrev pub values_at : List Point2 → List ℕ → List (ℤ × ℤ)
+values_at texture numbers = map (value_at (map texture_of texture)) numbers

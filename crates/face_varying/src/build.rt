@@ -7,7 +7,7 @@ ghost use Rattle.face_varying.specs.Corners.{apart_marks, corner_numbers};
 ghost use Rattle.face_varying.specs.Cut.{IsCuttable};
 ghost use Rattle.face_varying.specs.View.{mode_of};
 
-use crate::build_faces::{add_faces, points_alone};
+use crate::build_faces::{add_faces, builder_of_points};
 use crate::build_points::add_points;
 use crate::build_sides::add_sides;
 use crate::kept::kept_points;
@@ -43,7 +43,7 @@ fn cut_level<L: Ledger>(
 {
     level.facts();
     let points = vertices.len() as u32;
-    let mut builder = points_alone(alloc, level, apart, numbers, points)?;
+    let mut builder = builder_of_points(alloc, level, apart, numbers, points)?;
     add_faces(&mut builder, level, numbers, steps)?;
     add_sides(&mut builder, level, apart, numbers);
     add_points(&mut builder, level, vertices, kept);

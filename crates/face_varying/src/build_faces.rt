@@ -23,16 +23,16 @@ fn key_of(level: &Level, numbers: &[u32]) -> u128 {
 
 // Returns a bound of the number of edges of the cut mesh: one for each edge of the mesh, and one more where the faces there
 // are apart.
-fn edge_room(level: &Level, apart: &[bool]) -> u32 {
-    let mut room = level.edges();
+fn most_edges(level: &Level, apart: &[bool]) -> u32 {
+    let mut most = level.edges();
     for mark in apart {
-        room = room.saturating_add(u32::from(*mark));
+        most = most.saturating_add(u32::from(*mark));
     }
-    room
+    most
 }
 
 // Returns a builder that has only the points, with memory for all that follows.
-pub(crate) fn points_alone(
+pub(crate) fn builder_of_points(
     alloc: Global,
     level: &Level,
     apart: &[bool],
@@ -44,7 +44,7 @@ pub(crate) fn points_alone(
     ensures { IfOk result (λ b. b ≡ only_points points level.now.level.method) }
 {
     let corners = numbers.len() as u32;
-    let edges = edge_room(level, apart);
+    let edges = most_edges(level, apart);
     let key = key_of(level, numbers);
     LevelBuilder::with_key(
         alloc,
@@ -67,7 +67,7 @@ pub(crate) fn add_faces<L: Ledger>(
     requires fit { AreFit builder.old.level.point_count (cut_by level.now.level.polygons numbers.now) }
     requires numbers { length numbers.now ≡ sum_by length level.now.level.polygons }
     requires holes { length level.now.level.holes ≡ length level.now.level.polygons }
-    requires alone { builder.old ≡ only_points builder.old.level.point_count builder.old.level.method }
+    requires no_faces { builder.old ≡ only_points builder.old.level.point_count builder.old.level.method }
     ensures faces { OnOk result (builder.new ≡ smooth_built builder.old.level.point_count builder.old.level.method (cut_by level.now.level.polygons numbers.now) level.now.level.holes) }
     ensures steps { steps.new ≤ steps.old + length level.now.level.polygons }
     ensures later { steps.old ≤ steps.new }

@@ -1,11 +1,10 @@
 //! The corners at a vertex that edges join.
 
-ghost use Rattle.std.specs.Prelude.{◌≡◌, ◌≢◌, ℕ, ◌+◌, ◌<◌, length, get_or, IfOk, if◌then◌else◌};
+ghost use Rattle.std.specs.Prelude.{◌≡◌, ◌<◌, length, IfOk, if◌then◌else◌};
 ghost use Rattle.std.specs.List.{sum_by};
 ghost use Rattle.subdiv_model.specs.ObjMesh.{ObjMesh};
-ghost use Rattle.subdiv_model.specs.Polygons.{polygon_at};
 ghost use Rattle.face_varying.specs.Corners.{AreLabels, apart_marks, corner_points};
-ghost use Rattle.face_varying.specs.CornerPlaces.{start_of};
+ghost use Rattle.face_varying.specs.CornerPlaces.{KeepsOthers};
 ghost use Rattle.face_varying.specs.Cut.{IsCuttable};
 ghost use Rattle.face_varying.specs.Fans.{HasRuns, corner_in, face_count, is_cut, last_run};
 
@@ -56,8 +55,7 @@ fn label_vertex(labels: &mut Vec<u32>, level: &Level, apart: &[bool], v: u32)
     requires corners { length labels.old.items ≡ sum_by length level.now.level.polygons }
     ensures corners { length labels.new.items ≡ length labels.old.items }
     ensures runs { HasRuns level.now apart.now v (face_count level.now v) labels.new.items }
-    ensures others { (f c : ℕ) → f < length level.now.level.polygons → c < length (polygon_at level.now.level.polygons f) → get_or (polygon_at level.now.level.polygons f) c 0 ≢ v
-        → get_or labels.new.items (start_of level.now.level.polygons f + c) 0 ≡ get_or labels.old.items (start_of level.now.level.polygons f + c) 0 }
+    ensures others { KeepsOthers level.now.level.polygons v labels.old.items labels.new.items }
 {
     level.facts();
     let mut start = last_run(level, apart, v);

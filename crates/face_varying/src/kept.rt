@@ -1,12 +1,7 @@
 //! The channel points that the mode keeps sharp.
 
-ghost use Rattle.std.specs.Prelude.{◌≡◌, false, length, map, replicate, IfOk};
-ghost use Rattle.std.specs.List.{range_with_len};
-ghost use Rattle.subdiv_model.specs.ObjMesh.{ObjMesh};
-ghost use Rattle.subdiv_model.specs.Cut.{channel_points, cut_polygons, stays_sharp};
-ghost use Rattle.face_varying.specs.Corners.{apart_marks, corner_numbers};
-ghost use Rattle.face_varying.specs.Cut.{IsCuttable};
-ghost use Rattle.face_varying.specs.View.{mode_of};
+ghost use Rattle.std.specs.Prelude.{◌≡◌, false, replicate, IfOk};
+ghost use Rattle.face_varying.specs.Cut.{ForEachMesh, AreKeptPoints};
 
 use crate::kept_corners::single_points;
 use crate::kept_ends::end_points;
@@ -32,8 +27,7 @@ pub(crate) fn kept_points(
     points: u32,
     mode: SeamMode,
 ) -> Result<Vec<bool>, Memory>
-    ensures { (mesh : ObjMesh) → IsCuttable mesh level.now → apart.now ≡ apart_marks mesh → numbers.now ≡ corner_numbers mesh → points ≡ length (channel_points mesh)
-        → IfOk result (λ kept. kept.items ≡ map (stays_sharp (mode_of mode) (cut_polygons mesh (channel_points mesh))) (range_with_len 0 (length (channel_points mesh)))) }
+    ensures { ForEachMesh level.now apart.now numbers.now points (λ mesh. IfOk result (λ kept. AreKeptPoints mode mesh kept.items)) }
 {
     match mode {
         SeamMode::Smooth => no_points(alloc, points as usize),

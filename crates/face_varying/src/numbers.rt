@@ -3,7 +3,7 @@
 ghost use Rattle.std.specs.Prelude.{ℕ, ◌≡◌, ◌<◌, ◌^◌, nat_eq, List, length, IfOk};
 ghost use Rattle.std.specs.List.{All, position_or_len};
 ghost use Rattle.face_varying.specs.Corners.{numbers_of};
-ghost use Rattle.face_varying.specs.FirstOnes.{met_with, AreKnown};
+ghost use Rattle.face_varying.specs.FirstOnes.{seen_with, AreKnown};
 
 use ratio128::Memory;
 use std::alloc::Global;
@@ -15,8 +15,8 @@ const UNMET: u32 = u32::MAX;
 fn number_of(known: &mut Vec<u32>, label: u32, next: u32) -> u32
     requires within { label < length known.old.items }
     requires few { next < 2 ^ 28 }
-    ensures number { (met : List ℕ) → AreKnown met known.old.items → next ≡ length met → result ≡ position_or_len (nat_eq label) met }
-    ensures known { (met : List ℕ) → AreKnown met known.old.items → next ≡ length met → AreKnown (met_with nat_eq met label) known.new.items }
+    ensures number { (seen : List ℕ) → AreKnown seen known.old.items → next ≡ length seen → result ≡ position_or_len (nat_eq label) seen }
+    ensures known { (seen : List ℕ) → AreKnown seen known.old.items → next ≡ length seen → AreKnown (seen_with nat_eq seen label) known.new.items }
     ensures size { length known.new.items ≡ length known.old.items }
 {
     let number = known[label as usize];

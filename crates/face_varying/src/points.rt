@@ -7,7 +7,7 @@ ghost use Rattle.raw_mesh.specs.View.{texture_of};
 ghost use Rattle.face_varying.specs.Corners.{corner_numbers};
 ghost use Rattle.face_varying.specs.Cut.{IsCuttable};
 ghost use Rattle.face_varying.specs.FirstOnes.{first_ones, with_first};
-ghost use Rattle.face_varying.specs.TextureValues.{texture_values, value_at};
+ghost use Rattle.face_varying.specs.TextureValues.{texture_values, value_at, values_at};
 
 use level_topology::Level;
 use ratio128::{Memory, Point2};
@@ -69,7 +69,7 @@ fn add_face(
     requires corners { length corners.now ≡ length numbers.now }
     requires within { All (λ t. t < length texture.now) corners.now }
     ensures vertices { OnOk result (points.new.vertices.items ≡ points.old.vertices.items ++ first_ones (length points.old.vertices.items) numbers.now vertices.now) }
-    ensures values { OnOk result (texture_values points.new ≡ texture_values points.old ++ first_ones (length points.old.vertices.items) numbers.now (map (value_at (map texture_of texture.now)) corners.now)) }
+    ensures values { OnOk result (texture_values points.new ≡ texture_values points.old ++ first_ones (length points.old.vertices.items) numbers.now (values_at texture.now corners.now)) }
 {
     for c in 0..numbers.len() {
         add_corner(points, numbers[c], vertices[c], corners[c], texture)?;

@@ -3,7 +3,7 @@ use Rattle.std.proofs.lemmas.Result.{IfOk-weaker}
 use Rattle.subdiv_model.specs.Level.{Level}
 use Rattle.point_fans.specs.Built.{Built}
 use Rattle.face_varying.specs.View.{mode_of}
-use Rattle.face_varying.proofs.CutBuiltLemmas.{parts-of, few-points, few-numbers, parts-fit, parts-numbers, parts-holes, parts-apart, parts-kept, parts-vertices, alone-itself, with-sides, sides-points, sides-sharp, sides-marks, with-all, all-fans}
+use Rattle.face_varying.proofs.CutBuiltLemmas.{parts-of, few-points, few-numbers, parts-fit, parts-numbers, parts-holes, parts-apart, parts-kept, parts-vertices, points-only-itself, with-sides, sides-points, sides-sharp, sides-marks, with-all, all-fans}
 use Rattle.face_varying.proofs.build.cut_level.Goals as goal
 
 pub add_sides-requires-clause-faces : goal.add_sides-requires-clause-faces
@@ -17,13 +17,13 @@ overflow_cast-points g c =
     let parts = parts-of (mode_of c.args.mode) c.requires.cuttable c.facts.ensures c.requires.apart c.requires.numbers c.requires.vertices c.requires.kept in
     omega (arith, few-points parts)
 
-pub points_alone-requires-clause-points : goal.points_alone-requires-clause-points
-points_alone-requires-clause-points g c =
+pub builder_of_points-requires-clause-points : goal.builder_of_points-requires-clause-points
+builder_of_points-requires-clause-points g c =
     let parts = parts-of (mode_of c.args.mode) c.requires.cuttable c.facts.ensures c.requires.apart c.requires.numbers c.requires.vertices c.requires.kept in
     omega (arith, few-points parts)
 
-pub points_alone-requires-clause-few : goal.points_alone-requires-clause-few
-points_alone-requires-clause-few g c =
+pub builder_of_points-requires-clause-few : goal.builder_of_points-requires-clause-few
+builder_of_points-requires-clause-few g c =
     let parts = parts-of (mode_of c.args.mode) c.requires.cuttable c.facts.ensures c.requires.apart c.requires.numbers c.requires.vertices c.requires.kept in
     omega (arith, few-numbers parts)
 
@@ -42,10 +42,10 @@ add_faces-requires-clause-holes g c =
     let parts = parts-of (mode_of c.args.mode) c.requires.cuttable c.facts.ensures c.requires.apart c.requires.numbers c.requires.vertices c.requires.kept in
     parts-holes parts
 
-pub add_faces-requires-clause-alone : goal.add_faces-requires-clause-alone
-add_faces-requires-clause-alone g c =
+pub add_faces-requires-clause-no_faces : goal.add_faces-requires-clause-no_faces
+add_faces-requires-clause-no_faces g c =
     let parts = parts-of (mode_of c.args.mode) c.requires.cuttable c.facts.ensures c.requires.apart c.requires.numbers c.requires.vertices c.requires.kept in
-    alone-itself parts c.in_ok-builder.builder c.in_ok-builder.ensures
+    points-only-itself parts c.in_ok-builder.builder c.in_ok-builder.ensures
 
 pub add_sides-requires-clause-numbers : goal.add_sides-requires-clause-numbers
 add_sides-requires-clause-numbers g c =

@@ -2,8 +2,8 @@ use Rattle.std.proofs.Common.{ℕ, ◌≡◌, ◌+◌, ◌∙◌, ◌++◌, ◌�
 use Rattle.std.proofs.lemmas.Bool.Decides.{nat_tests}
 use Rattle.std.proofs.lemmas.Bool.{eq-eqb, eqb-true}
 use Rattle.std.proofs.lemmas.List.{take_more, take_all}
-use Rattle.face_varying.specs.FirstOnes.{met_with, met_after, numbers_after, AreKnown}
-use Rattle.face_varying.proofs.FirstOneLemmas.{met-push, numbers-push, with-length, numbers-once}
+use Rattle.face_varying.specs.FirstOnes.{seen_with, seen_after, numbers_after, AreKnown}
+use Rattle.face_varying.proofs.FirstOneLemmas.{seen-push, numbers-push, with-length, numbers-once}
 use Rattle.face_varying.proofs.numbers.number_corners.Goals as goal
 
 pub loop-label-preserved : goal.loop-label-preserved
@@ -12,20 +12,20 @@ loop-label-preserved c =
     let i = c.loop-label.label-index in
     let label = get_or labels i 0 in
     let more = take_more labels i 0 c.loop-label-test.true in
-    let met = met_after nat_eq [] (take i labels) in
-    let met_more : met_after nat_eq [] (take (i + 1) labels) ≡ met_with nat_eq met label = ap (met_after nat_eq []) more ∙ met-push nat_eq [] (take i labels) label in
-    let number = c.number_of-number.ensures.number met c.loop-label.invariant.known c.loop-label.invariant.count in
-    let counted = with-length nat_eq met label in
+    let seen = seen_after nat_eq [] (take i labels) in
+    let seen_more : seen_after nat_eq [] (take (i + 1) labels) ≡ seen_with nat_eq seen label = ap (seen_after nat_eq []) more ∙ seen-push nat_eq [] (take i labels) label in
+    let number = c.number_of-number.ensures.number seen c.loop-label.invariant.known c.loop-label.invariant.count in
+    let counted = with-length nat_eq seen label in
     record {
-      known = subst (λ (ms : List ℕ). AreKnown ms c.number_of-number.new.known.items) (sym met_more) (c.number_of-number.ensures.known met c.loop-label.invariant.known c.loop-label.invariant.count);
+      known = subst (λ (ms : List ℕ). AreKnown ms c.number_of-number.new.known.items) (sym seen_more) (c.number_of-number.ensures.known seen c.loop-label.invariant.known c.loop-label.invariant.count);
       size = c.number_of-number.ensures.size ∙ c.loop-label.invariant.size;
-      count = let sizes : length (met_after nat_eq [] (take (i + 1) labels)) ≡ length (met_with nat_eq met label) = ap length met_more in grind (arith, nat_tests, sizes, counted, number);
+      count = let sizes : length (seen_after nat_eq [] (take (i + 1) labels)) ≡ length (seen_with nat_eq seen label) = ap length seen_more in grind (arith, nat_tests, sizes, counted, number);
       few = grind (arith, nat_tests);
       numbers =
           c.push_reserved.ensures.items ∙ ap (λ (ns : List ℕ). ns ++ c.number_of-number.result ∷ []) c.loop-label.invariant.numbers
           ∙ ap (λ (n : ℕ). numbers_after nat_eq [] (take i labels) ++ n ∷ []) number ∙ sym (ap (numbers_after nat_eq []) more ∙ numbers-push nat_eq [] (take i labels) label);
       put = omega arith;
-      room = search rules;
+      capacity = search rules;
     }
 
 pub returns : goal.returns
