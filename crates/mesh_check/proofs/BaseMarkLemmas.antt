@@ -33,7 +33,7 @@ marks-more v start old h is =
 -- the count of a vertex is at most the corners so far
 pub count-room : (face counts : List ℕ) (i v start now d : ℕ) → i < length face → v < length counts → start + length face < 2 ^ 32
     → now ≡ get_or counts v d → get_or counts v 0 ≡ start + count_by (nat_eq v) (take i face) → now + 1 < 2 ^ 32
-count-room face counts i v start now d h there room read is =
+count-room face counts i v start now d h there fits read is =
     omega (arith, read, get_or_default_zero counts v d there, is, count_by-le-length (nat_eq v) (take i face), length-take i face)
 
 -- one corner more is counted at its vertex, and at no other

@@ -1,5 +1,5 @@
 mod KeyLemmas
-mod AloneLemmas
+mod UnrepeatedLemmas
 mod PlaceLemmas
 mod RestLemmas
 mod SearchLemmas

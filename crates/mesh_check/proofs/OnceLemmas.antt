@@ -74,8 +74,8 @@ keys-distinct : (edges : List (ℕ × ℕ)) → AreWords edges → ((s : ℕ × 
 keys-distinct [] words once = refl
 keys-distinct (e ∷ edges) words once =
     let self : one_if (same_edge e e) ≡ 1 = one-yes _ (same_edge-refl e) in
-    let alone : count_by (nat_eq (edge_key e)) (map edge_key edges) ≡ count_by (same_edge e) edges = count-keys edge_key same_edge edge-key-same e words.0 edges words.1 in
-    let none : is_among (map edge_key edges) (edge_key e) ≡ false = any-count (nat_eq (edge_key e)) (map edge_key edges) ∙ zero-none _ (omega (arith, alone, self, count-cons (same_edge e) e edges, once e)) in
+    let only : count_by (nat_eq (edge_key e)) (map edge_key edges) ≡ count_by (same_edge e) edges = count-keys edge_key same_edge edge-key-same e words.0 edges words.1 in
+    let none : is_among (map edge_key edges) (edge_key e) ≡ false = any-count (nat_eq (edge_key e)) (map edge_key edges) ∙ zero-none _ (omega (arith, only, self, count-cons (same_edge e) e edges, once e)) in
     and_from _ _ (ap not none) (keys-distinct edges words.1 (λ s. omega (arith, count-cons (same_edge s) e edges, once s)))
   where
     zero-none : (k : ℕ) → k ≤ 0 → nat_lt 0 k ≡ false

@@ -52,9 +52,9 @@ has_equal_neighbours (n ∷ numbers) = has_equal_after n numbers
 
 -- the numbers that equal neither neighbour; the first argument says whether the first number equals the one before it. Among
 -- ascending numbers these occur once.
-abbrev pub alone_after : Bool → List ℕ → List ℕ
-alone_after again [] = []
-alone_after again (n ∷ numbers) = if not again && not (is_again 1 (n ∷ numbers) n) then n ∷ alone_after (is_again 1 (n ∷ numbers) n) numbers else alone_after (is_again 1 (n ∷ numbers) n) numbers
+abbrev pub unrepeated_after : Bool → List ℕ → List ℕ
+unrepeated_after again [] = []
+unrepeated_after again (n ∷ numbers) = if not again && not (is_again 1 (n ∷ numbers) n) then n ∷ unrepeated_after (is_again 1 (n ∷ numbers) n) numbers else unrepeated_after (is_again 1 (n ∷ numbers) n) numbers
 
 -- the ends of the edge with a number
 abbrev pub ends_of_key : ℕ → List ℕ

@@ -42,14 +42,14 @@ fn corner_count(raw: &RawMesh) -> u32
 
 // Returns a builder that has only the points, with memory for all that follows. Each boundary edge has one side, and any
 // other has two.
-fn points_alone(alloc: Global, raw: &RawMesh, boundary: usize) -> Result<LevelBuilder, Memory>
+fn builder_of_points(alloc: Global, raw: &RawMesh, boundary: usize) -> Result<LevelBuilder, Memory>
     requires { IsFit raw.now }
     ensures { IfOk result (λ b. b ≡ only_points (length raw.now.points) raw.now.method) }
 {
     let points = raw.points().len() as u32;
     let corners = corner_count(raw);
-    let alone = boundary.min(corners as usize) as u32;
-    let edges = (corners + alone) / 2;
+    let single = boundary.min(corners as usize) as u32;
+    let edges = (corners + single) / 2;
     let key = key_of(raw);
     LevelBuilder::with_key(
         alloc,
@@ -71,7 +71,7 @@ fn add_faces<L: Ledger>(
 ) -> Result<(), Memory>
     requires fit { IsFit raw.now }
     requires holes { length holes.now ≡ length raw.now.faces }
-    requires alone { builder.old ≡ only_points (length raw.now.points) raw.now.method }
+    requires no_faces { builder.old ≡ only_points (length raw.now.points) raw.now.method }
     ensures faces { OnOk result (builder.new ≡ smooth_built (length raw.now.points) raw.now.method raw.now.faces holes.now) }
     ensures steps { steps.new ≤ steps.old + length raw.now.faces }
     ensures later { steps.old ≤ steps.new }
@@ -174,7 +174,7 @@ fn add_all<L: Ledger>(
     requires edges { AreEdges raw.now.faces edges.now }
     requires boundary { boundary.now ≡ filter (is_boundary raw.now.faces) (all_sides raw.now.faces) }
     requires holes { holes.now ≡ map (is_base_hole raw.now) (enumerate_from 0 raw.now.faces) }
-    requires alone { builder.old ≡ only_points (length raw.now.points) raw.now.method }
+    requires no_faces { builder.old ≡ only_points (length raw.now.points) raw.now.method }
     ensures all { OnOk result (builder.new ≡ all_complete (tagged_built raw.now holes.now)) }
     ensures steps { steps.new ≤ steps.old + length raw.now.faces }
     ensures later { steps.old ≤ steps.new }
@@ -204,7 +204,7 @@ pub(crate) fn base_level<L: Ledger>(
     ensures steps { steps.new ≤ steps.old + length raw.now.faces }
     ensures later { steps.old ≤ steps.new }
 {
-    let mut builder = points_alone(alloc, raw, boundary.len())?;
+    let mut builder = builder_of_points(alloc, raw, boundary.len())?;
     add_all(alloc, raw, edges, boundary, holes, &mut builder, steps)?;
     builder.finish()
 }

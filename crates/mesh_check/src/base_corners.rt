@@ -17,7 +17,7 @@ use std::alloc::Global;
 // Counts the corners of a face at their vertices.
 pub(crate) fn count_face(counts: &mut Vec<u32>, face: &[u32])
     requires inside { All (λ v. v < length counts.old.items) face.now }
-    requires room { (v : ℕ) → get_or counts.old.items v 0 + length face.now < 2 ^ 32 }
+    requires countable { (v : ℕ) → get_or counts.old.items v 0 + length face.now < 2 ^ 32 }
     ensures counts { (v : ℕ) → get_or counts.new.items v 0 ≡ get_or counts.old.items v 0 + count_by (nat_eq v) face.now }
     ensures size { length counts.new.items ≡ length counts.old.items }
 {

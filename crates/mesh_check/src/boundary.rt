@@ -8,7 +8,7 @@ ghost use Rattle.subdiv_model.specs.MeshFault.{first_mesh_fault};
 ghost use Rattle.mesh_check.specs.Keys.{IsWord, edge_key, Rises, AreEdgeKeys};
 
 use crate::edges::sides_among;
-use crate::keys::{alone, edge_keys};
+use crate::keys::{edge_keys, unrepeated};
 use ratio128::Memory;
 use raw_mesh::RawMesh;
 use std::alloc::Global;
@@ -33,7 +33,7 @@ fn boundary_sides(
     requires { AreEdgeKeys sides.now edges.now }
     ensures { IfOk result (λ found. found.items ≡ filter (λ s. nat_eq (count_by (same_edge s) sides.now) 1) sides.now) }
 {
-    let once = alone(alloc, edges)?;
+    let once = unrepeated(alloc, edges)?;
     let found = sides_among(alloc, sides, &once, false)?;
     Ok(found)
 }

@@ -113,7 +113,7 @@ pub(crate) fn frequent(alloc: Global, keys: Vec<u64>, limit: usize) -> Result<Ve
 }
 
 // Returns the numbers that occur once among ascending numbers.
-pub(crate) fn alone(alloc: Global, keys: &[u64]) -> Result<Vec<u64>, Memory>
+pub(crate) fn unrepeated(alloc: Global, keys: &[u64]) -> Result<Vec<u64>, Memory>
     requires { Rises keys.now }
     ensures rises { IfOk result (λ found. Rises found.items) }
     ensures once { IfOk result (λ found. (n : ℕ) → is_among found.items n ≡ nat_eq (count_by (nat_eq n) keys.now) 1) }

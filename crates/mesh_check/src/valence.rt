@@ -21,7 +21,7 @@ use std::alloc::Global;
 // Counts an edge at its two ends, unless its number occurs again later.
 fn count_ends(counts: &mut Vec<u32>, key: u64, again: bool)
     requires inside { All (λ v. v < length counts.old.items) (ends_of_key key) }
-    requires room { (v : ℕ) → get_or counts.old.items v 0 + 2 < 2 ^ 32 }
+    requires countable { (v : ℕ) → get_or counts.old.items v 0 + 2 < 2 ^ 32 }
     ensures counts { (v : ℕ) → get_or counts.new.items v 0 ≡ get_or counts.old.items v 0 + (if again then 0 else count_by (nat_eq v) (ends_of_key key)) }
     ensures size { length counts.new.items ≡ length counts.old.items }
 {

@@ -7,8 +7,8 @@ use Rattle.mesh_check.proofs.MarkLemmas.{none-set, as-many, face-inside}
 use Rattle.mesh_check.proofs.BaseMarkLemmas.{counts-room, counts-more}
 use Rattle.mesh_check.proofs.base_corners.corner_counts.Goals as goal
 
-pub count_face-requires-clause-room : goal.count_face-requires-clause-room
-count_face-requires-clause-room c = λ v. counts-room c.args.raw.now.faces c.loop-f.f v _ c.face.result.now c.facts.ensures.few_corners c.face.ensures (c.loop-f.invariant.counts v)
+pub count_face-requires-clause-countable : goal.count_face-requires-clause-countable
+count_face-requires-clause-countable c = λ v. counts-room c.args.raw.now.faces c.loop-f.f v _ c.face.result.now c.facts.ensures.few_corners c.face.ensures (c.loop-f.invariant.counts v)
 
 pub loop-f-preserved : goal.loop-f-preserved
 loop-f-preserved c = record {

@@ -10,7 +10,7 @@ overflow_add-index_mut c =
     omega (
       arith,
       count-room c.args.face.now c.loop-v.counts.items c.loop-v.v-index v _ _ _ c.loop-v-test.true
-          (omega (arith, c.requires.inside c.loop-v.v-index 0 c.loop-v-test.true, c.loop-v.invariant.size)) (c.requires.room v) c.index_mut.ensures.value (c.loop-v.invariant.counts v),
+          (omega (arith, c.requires.inside c.loop-v.v-index 0 c.loop-v-test.true, c.loop-v.invariant.size)) (c.requires.countable v) c.index_mut.ensures.value (c.loop-v.invariant.counts v),
     )
 
 pub loop-v-preserved : goal.loop-v-preserved

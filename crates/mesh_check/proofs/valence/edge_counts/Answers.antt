@@ -12,7 +12,7 @@ loop-rest-preserved c =
           search (rules, more);
       size = c.count_ends.ensures.size ∙ c.loop-rest.invariant.size;
       inside = let more = λ (n : ℕ) (h : length rest ≤ n + 1). inside-more c.args.points (get_or rest 0 0) (take n (drop 1 rest)) rest (whole n h) c.loop-rest.invariant.inside in search (rules, more);
-      room = λ v.
-          let more = λ (n : ℕ) (h : length rest ≤ n + 1). ends-room v (get_or rest 0 0) (take n (drop 1 rest)) rest _ _ _ (whole n h) c.is_again-again.ensures (c.count_ends.ensures.counts v) _ (c.loop-rest.invariant.room v) in
+      countable = λ v.
+          let more = λ (n : ℕ) (h : length rest ≤ n + 1). ends-room v (get_or rest 0 0) (take n (drop 1 rest)) rest _ _ _ (whole n h) c.is_again-again.ensures (c.count_ends.ensures.counts v) _ (c.loop-rest.invariant.countable v) in
           search (rules, more);
     }

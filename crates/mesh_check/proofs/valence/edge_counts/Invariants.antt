@@ -9,7 +9,7 @@ invariant-loop-rest l = record {
   counts : (v : ℕ) → get_or l.counts.items v 0 + sum_by (λ key. count_by (nat_eq v) (ends_of_key key)) (each_once l.rest) ≡ sum_by (λ key. count_by (nat_eq v) (ends_of_key key)) (each_once l.edges);
   size : length l.counts.items ≡ l.points;
   inside : All (λ key. All (λ v. v < l.points) (ends_of_key key)) l.rest;
-  room : (v : ℕ) → get_or l.counts.items v 0 + 2 * length (each_once l.rest) ≤ 2 * length (each_once l.edges);
+  countable : (v : ℕ) → get_or l.counts.items v 0 + 2 * length (each_once l.rest) ≤ 2 * length (each_once l.edges);
 }
 
 abbrev pub decreases-loop-rest : goal.decreases-loop-rest

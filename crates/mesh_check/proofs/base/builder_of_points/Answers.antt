@@ -2,7 +2,7 @@ use Rattle.std.proofs.Common.{arith, length, ap, ◌∙◌}
 use Rattle.std.proofs.lemmas.Result.{IfOk-weaker}
 use Rattle.level_builder.specs.Builder.{only_points}
 use Rattle.mesh_check.proofs.CountLemmas.{point-count}
-use Rattle.mesh_check.proofs.base.points_alone.Goals as goal
+use Rattle.mesh_check.proofs.base.builder_of_points.Goals as goal
 
 pub overflow_cast-points : goal.overflow_cast-points
 overflow_cast-points c = omega (arith, point-count c.points.result.now _ c.points.ensures, c.requires.points)

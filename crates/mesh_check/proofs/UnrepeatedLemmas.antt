@@ -5,7 +5,7 @@ use Rattle.std.proofs.lemmas.Bool.Decides.{nat_tests}
 use Rattle.std.proofs.lemmas.Bool.{and_parts, and_from, eqb-true}
 use Rattle.subdiv_model.specs.Polygons.{is_among}
 use Rattle.number_laws.proofs.CountLemmas.{count-cons, one_if}
-use Rattle.mesh_check.specs.Keys.{Rises, is_again, alone_after}
+use Rattle.mesh_check.specs.Keys.{Rises, is_again, unrepeated_after}
 use Rattle.mesh_check.proofs.KeyLemmas.{again-count}
 
 -- a number that may be kept before others
@@ -22,25 +22,25 @@ among-kept true n x xs = refl
 among-kept false n x xs = refl
 
 -- a number below all is below those that occur once
-below-alone : (again : Bool) (n : ℕ) (xs : List ℕ) → list_all (nat_le n) xs ≡ true → list_all (nat_le n) (alone_after again xs) ≡ true
-below-alone again n [] h = refl
-below-alone again n (x ∷ xs) h =
+below-unrepeated : (again : Bool) (n : ℕ) (xs : List ℕ) → list_all (nat_le n) xs ≡ true → list_all (nat_le n) (unrepeated_after again xs) ≡ true
+below-unrepeated again n [] h = refl
+below-unrepeated again n (x ∷ xs) h =
     let parts = and_parts (nat_le n x) (list_all (nat_le n) xs) h in
-    below-kept (not again && not (is_again 1 (x ∷ xs) x)) n x (alone_after (is_again 1 (x ∷ xs) x) xs) parts.0 (below-alone (is_again 1 (x ∷ xs) x) n xs parts.1)
+    below-kept (not again && not (is_again 1 (x ∷ xs) x)) n x (unrepeated_after (is_again 1 (x ∷ xs) x) xs) parts.0 (below-unrepeated (is_again 1 (x ∷ xs) x) n xs parts.1)
 
 -- the kept numbers ascend
-pub alone-rise : (again : Bool) (xs : List ℕ) → Rises xs → Rises (alone_after again xs)
-alone-rise again [] h = h
-alone-rise again (x ∷ xs) h =
+pub unrepeated-rise : (again : Bool) (xs : List ℕ) → Rises xs → Rises (unrepeated_after again xs)
+unrepeated-rise again [] h = h
+unrepeated-rise again (x ∷ xs) h =
     let next = is_again 1 (x ∷ xs) x in
-    rise-kept (not again && not next) x (alone_after next xs) (below-alone next x xs h.0) (alone-rise next xs h.1)
+    rise-kept (not again && not next) x (unrepeated_after next xs) (below-unrepeated next x xs h.0) (unrepeated-rise next xs h.1)
 
 -- a kept number occurs once, and is not the first if the first equals the number before it
-among-alone : (n : ℕ) (again : Bool) (xs : List ℕ) → Rises xs → is_among (alone_after again xs) n ≡ (nat_eq (count_by (nat_eq n) xs) 1 && not (again && is_again 0 xs n))
-among-alone n again [] h = grind (arith, nat_tests)
-among-alone n again (x ∷ xs) h =
-    among-kept (not again && not (is_again 1 (x ∷ xs) x)) n x (alone_after (is_again 1 (x ∷ xs) x) xs)
-    ∙ go (nat_eq n x) refl (again-count 0 x xs h.0 h.1) (among-alone n (is_again 1 (x ∷ xs) x) xs h.1)
+among-unrepeated : (n : ℕ) (again : Bool) (xs : List ℕ) → Rises xs → is_among (unrepeated_after again xs) n ≡ (nat_eq (count_by (nat_eq n) xs) 1 && not (again && is_again 0 xs n))
+among-unrepeated n again [] h = grind (arith, nat_tests)
+among-unrepeated n again (x ∷ xs) h =
+    among-kept (not again && not (is_again 1 (x ∷ xs) x)) n x (unrepeated_after (is_again 1 (x ∷ xs) x) xs)
+    ∙ go (nat_eq n x) refl (again-count 0 x xs h.0 h.1) (among-unrepeated n (is_again 1 (x ∷ xs) x) xs h.1)
   where
     next : is_again 1 (x ∷ xs) x ≡ is_again 0 xs x
     next = grind (arith, nat_tests)
@@ -55,20 +55,20 @@ among-alone n again (x ∷ xs) h =
     same e = ap (λ k. count_by (nat_eq k) xs) (sym (eqb-true n x e))
 
     go : (b : Bool) → nat_eq n x ≡ b → is_again 0 xs x ≡ nat_lt 0 (count_by (nat_eq x) xs)
-        → is_among (alone_after (is_again 1 (x ∷ xs) x) xs) n ≡ (nat_eq (count_by (nat_eq n) xs) 1 && not (is_again 1 (x ∷ xs) x && is_again 0 xs n))
-        → (((not again && not (is_again 1 (x ∷ xs) x)) && nat_eq n x) || is_among (alone_after (is_again 1 (x ∷ xs) x) xs) n) ≡ (nat_eq (count_by (nat_eq n) (x ∷ xs)) 1 && not (again && is_again 0 (x ∷ xs) n))
+        → is_among (unrepeated_after (is_again 1 (x ∷ xs) x) xs) n ≡ (nat_eq (count_by (nat_eq n) xs) 1 && not (is_again 1 (x ∷ xs) x && is_again 0 xs n))
+        → (((not again && not (is_again 1 (x ∷ xs) x)) && nat_eq n x) || is_among (unrepeated_after (is_again 1 (x ∷ xs) x) xs) n) ≡ (nat_eq (count_by (nat_eq n) (x ∷ xs)) 1 && not (again && is_again 0 (x ∷ xs) n))
     go true e counted behind = let m = more e in let s = same e in grind (arith, nat_tests, next)
     go false e counted behind = let m = apart e in grind (arith, nat_tests, next)
 
 -- the kept numbers are those that occur once
-pub alone-count : (n : ℕ) (xs : List ℕ) → Rises xs → is_among (alone_after false xs) n ≡ nat_eq (count_by (nat_eq n) xs) 1
-alone-count n xs h = among-alone n false xs h ∙ whole (nat_eq (count_by (nat_eq n) xs) 1)
+pub unrepeated-count : (n : ℕ) (xs : List ℕ) → Rises xs → is_among (unrepeated_after false xs) n ≡ nat_eq (count_by (nat_eq n) xs) 1
+unrepeated-count n xs h = among-unrepeated n false xs h ∙ whole (nat_eq (count_by (nat_eq n) xs) 1)
   where
     whole : (b : Bool) → (b && true) ≡ b
     whole true = refl
     whole false = refl
 
 -- once no number is left, all are found
-pub alone-end : (found rest keys : List ℕ) (again : Bool) → length rest < 1 → found ++ alone_after again rest ≡ alone_after false keys → found ≡ alone_after false keys
-alone-end found [] keys again h is = sym (append-nil found) ∙ is
-alone-end found (n ∷ rest) keys again h is = absurd (omega arith)
+pub unrepeated-end : (found rest keys : List ℕ) (again : Bool) → length rest < 1 → found ++ unrepeated_after again rest ≡ unrepeated_after false keys → found ≡ unrepeated_after false keys
+unrepeated-end found [] keys again h is = sym (append-nil found) ∙ is
+unrepeated-end found (n ∷ rest) keys again h is = absurd (omega arith)

@@ -1,0 +1,12 @@
+use Rattle.std.proofs.Common.{◌∙◌, ap, sym, subst, false}
+use Rattle.subdiv_model.specs.Polygons.{is_among}
+use Rattle.mesh_check.specs.Keys.{Rises}
+use Rattle.mesh_check.proofs.UnrepeatedLemmas.{unrepeated-end, unrepeated-rise, unrepeated-count}
+use Rattle.mesh_check.proofs.keys.unrepeated.Goals as goal
+
+pub returns-clause-rises : goal.returns-clause-rises
+returns-clause-rises c = subst Rises (sym (unrepeated-end c.loop-rest.found.items c.loop-rest.rest.now c.args.keys.now c.loop-rest.again c.in_default.len_below c.loop-rest.invariant)) (unrepeated-rise false c.args.keys.now c.requires)
+
+pub returns-clause-once : goal.returns-clause-once
+returns-clause-once c = λ n.
+    ap (λ xs. is_among xs n) (unrepeated-end c.loop-rest.found.items c.loop-rest.rest.now c.args.keys.now c.loop-rest.again c.in_default.len_below c.loop-rest.invariant) ∙ unrepeated-count n c.args.keys.now c.requires
