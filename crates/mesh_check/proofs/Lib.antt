@@ -1,8 +1,4 @@
-mod KeyLemmas
-mod UnrepeatedLemmas
 mod PlaceLemmas
-mod RestLemmas
-mod SearchLemmas
 mod MarkLemmas
 mod EdgeFaultLemmas
 mod ChainLemmas

@@ -1,4 +1,4 @@
--- A list whose numbers are marked as they are met has none twice where none was marked before.
+-- A list whose numbers are marked as they are seen has none twice where none was marked before.
 use Rattle.std.proofs.Common.{◌≡◌, ℕ, zero, suc, ◌+◌, ◌<◌, ◌≤◌, ◌≢◌, Bool, true, false, not, ◌&&◌, ◌||◌, nat_eq, List, [], ◌∷◌, length, drop, replicate, get_or, slice_set, arith, refl, ap, sym, subst, ◌∙◌, get_or-set_other, get_or-set_same, Some}
 use Rattle.std.specs.List.{All, list_all, slice_get}
 use Rattle.std.proofs.lemmas.Bool.Decides.{nat_tests}
@@ -69,14 +69,14 @@ dropped : (face : List ℕ) (i : ℕ) → i < length face → drop i face ≡ ge
 dropped face i h = drop-here face i (get_or face i 0) (slice_get-get_or face i 0 h)
 
 -- a number that is already marked occurs twice
-pub new-met : (mark : ℕ) (start marks face : List ℕ) (i : ℕ) → i < length face → is_new mark marks (drop i face) ≡ is_new mark start face → nat_eq (get_or marks (get_or face i 0) 0) mark ≡ true → is_new mark start face ≡ false
-new-met mark start marks face i h decides met =
-    sym decides ∙ ap (is_new mark marks) (dropped face i h) ∙ ap (λ b. not b && is_new mark (slice_set marks (get_or face i 0) mark) (drop (i + 1) face)) met
+pub new-seen : (mark : ℕ) (start marks face : List ℕ) (i : ℕ) → i < length face → is_new mark marks (drop i face) ≡ is_new mark start face → nat_eq (get_or marks (get_or face i 0) 0) mark ≡ true → is_new mark start face ≡ false
+new-seen mark start marks face i h decides seen =
+    sym decides ∙ ap (is_new mark marks) (dropped face i h) ∙ ap (λ b. not b && is_new mark (slice_set marks (get_or face i 0) mark) (drop (i + 1) face)) seen
 
 -- a number that is new is marked, and the others decide
 pub new-passed : (mark : ℕ) (start marks face : List ℕ) (i : ℕ) → i < length face → is_new mark marks (drop i face) ≡ is_new mark start face → nat_eq (get_or marks (get_or face i 0) 0) mark ≡ false → is_new mark (slice_set marks (get_or face i 0) mark) (drop (i + 1) face) ≡ is_new mark start face
-new-passed mark start marks face i h decides met =
-    sym (ap (λ b. not b && is_new mark (slice_set marks (get_or face i 0) mark) (drop (i + 1) face)) met) ∙ sym (ap (is_new mark marks) (dropped face i h)) ∙ decides
+new-passed mark start marks face i h decides seen =
+    sym (ap (λ b. not b && is_new mark (slice_set marks (get_or face i 0) mark) (drop (i + 1) face)) seen) ∙ sym (ap (is_new mark marks) (dropped face i h)) ∙ decides
 
 -- at the end all were new
 pub new-end : (mark : ℕ) (start marks face : List ℕ) (i : ℕ) → length face ≤ i → is_new mark marks (drop i face) ≡ is_new mark start face → is_new mark start face ≡ true

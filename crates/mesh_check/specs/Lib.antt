@@ -1,7 +1,6 @@
 pub mod View
 pub mod Faults
 pub mod Listed
-pub mod Keys
 pub mod Marks
 pub mod Chain
 pub mod Group

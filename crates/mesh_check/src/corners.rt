@@ -42,7 +42,7 @@ fn has_twice(face: &[u32], marks: &mut Vec<u32>, mark: u32) -> bool
     false
 }
 
-// Returns the first face that has a vertex twice. A table contains for each vertex the last face that was met there.
+// Returns the first face that has a vertex twice. A table contains for each vertex the last face that was seen there.
 pub(crate) fn repeating_face(alloc: Global, raw: &RawMesh) -> Result<Option<u32>, Memory>
     ensures { IfOk result (λ found. found ≡ first_of (repeating_faces raw.now.faces)) }
 {

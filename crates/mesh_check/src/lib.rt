@@ -18,7 +18,6 @@ mod fan;
 mod fault;
 mod faults;
 mod holes;
-mod keys;
 pub mod laws;
 mod listed;
 mod marks;

@@ -4,16 +4,16 @@ ghost use Rattle.std.specs.Prelude.{◌≡◌, true, nat_eq, length, slice_set, 
 ghost use Rattle.std.specs.List.{filter, position_or_len};
 ghost use Rattle.subdiv_model.specs.Polygons.{is_distinct};
 ghost use Rattle.subdiv_model.specs.Edges.{first_named};
-ghost use Rattle.mesh_check.specs.Keys.{AreWords, edge_key, Rises, is_unmarked};
+ghost use Rattle.sorted_keys.specs.Keys.{AreWords, edge_key, Rises, is_unmarked};
 
 use crate::boundary::known_edges;
 use crate::edges::put_if;
-use crate::keys::{each_once, edge_key};
 use crate::marks::{mark_at, no_marks};
 use ratio128::Memory;
+use sorted_keys::{each_once, edge_key};
 use std::alloc::Global;
 
-// Returns whether a number is one of these and was not met before. The call marks its place.
+// Returns whether a number is one of these and was not seen before. The call marks its place.
 fn is_new(keys: &[u64], marks: &mut Vec<u32>, key: u64) -> bool
     requires rises { Rises keys.now }
     requires once { is_distinct keys.now ≡ true }

@@ -1,7 +1,7 @@
 use Rattle.std.proofs.Common.{◌<◌, ◌≤◌, ◌+◌, ◌∙◌, sym, ap, subst, not, length, get_or, drop, arith}
 use Rattle.mesh_check.specs.Marks.{is_new}
 use Rattle.std.proofs.lemmas.List.{length-set}
-use Rattle.mesh_check.proofs.MarkLemmas.{new-met, new-passed, new-end, new-distinct, low-with, inside-at}
+use Rattle.mesh_check.proofs.MarkLemmas.{new-seen, new-passed, new-end, new-distinct, low-with, inside-at}
 use Rattle.mesh_check.proofs.corners.has_twice.Goals as goal
 
 pub mark_at-requires : goal.mark_at-requires
@@ -9,8 +9,8 @@ mark_at-requires c = inside-at c.args.face.now (length c.args.marks.now.items) _
 
 pub returns-then-mark_at-clause-twice : goal.returns-then-mark_at-clause-twice
 returns-then-mark_at-clause-twice c =
-    let met = new-met c.args.mark c.args.marks.now.items c.loop-i.marks.items c.args.face.now c.loop-i.i (omega arith) c.loop-i.invariant.decides (sym c.mark_at.ensures.was ∙ c.if-mark_at.true) in
-    sym (ap not (sym (new-distinct c.args.mark c.args.marks.now.items c.args.face.now c.requires.inside c.requires.fresh) ∙ met))
+    let seen = new-seen c.args.mark c.args.marks.now.items c.loop-i.marks.items c.args.face.now c.loop-i.i (omega arith) c.loop-i.invariant.decides (sym c.mark_at.ensures.was ∙ c.if-mark_at.true) in
+    sym (ap not (sym (new-distinct c.args.mark c.args.marks.now.items c.args.face.now c.requires.inside c.requires.fresh) ∙ seen))
 
 pub loop-i-preserved : goal.loop-i-preserved
 loop-i-preserved c =

@@ -1,23 +1,25 @@
-//! Numbers that occur often in a list, found by sorting.
+//! Sides and edges as numbers, and numbers that occur often in a list, found by sorting.
 
 ghost use Rattle.std.specs.Prelude.{◌≡◌, ℕ, nat_eq, nat_lt, ◌&&◌, [], ◌∷◌, ◌++◌, map, IfOk, OnOk, if◌then◌else◌};
 ghost use Rattle.std.specs.List.{count_by};
 ghost use Rattle.subdiv_model.specs.Polygons.{is_among};
-ghost use Rattle.mesh_check.specs.Keys.{IsWord, AreWords, side_key, edge_key, key_by, Rises, is_again, repeats, each_once};
+ghost use Rattle.sorted_keys.specs.Keys.{IsWord, AreWords, side_key, edge_key, key_by, Rises, is_again, repeats, each_once};
 
 use ratio128::Memory;
 use std::alloc::Global;
 
-// Returns a side as one number.
-pub(crate) fn side_key(side: (u32, u32)) -> u64
+/// Returns a side as one number: its first end is the high half.
+#[inline]
+pub fn side_key(side: (u32, u32)) -> u64
     ensures key { result ≡ side_key side }
     ensures word { IsWord side }
 {
     ((side.0 as u64) << 32) + side.1 as u64
 }
 
-// Returns an edge as one number, which is the same in both directions.
-pub(crate) fn edge_key(side: (u32, u32)) -> u64
+/// Returns the edge of a side as one number, which is the same in both directions.
+#[inline]
+pub fn edge_key(side: (u32, u32)) -> u64
     ensures key { result ≡ edge_key side }
     ensures word { IsWord side }
 {
@@ -54,24 +56,25 @@ fn keys_by(alloc: Global, sides: &[(u32, u32)], directed: bool) -> Result<Vec<u6
     Ok(keys)
 }
 
-// Returns the numbers of all sides.
-pub(crate) fn side_keys(alloc: Global, sides: &[(u32, u32)]) -> Result<Vec<u64>, Memory>
+/// Returns the numbers of all sides, in order. Reports [`Memory`] where memory runs out.
+pub fn side_keys(alloc: Global, sides: &[(u32, u32)]) -> Result<Vec<u64>, Memory>
     ensures keys { IfOk result (λ keys. keys.items ≡ map side_key sides.now) }
     ensures words { OnOk result (AreWords sides.now) }
 {
     keys_by(alloc, sides, true)
 }
 
-// Returns the numbers of the edges of all sides.
-pub(crate) fn edge_keys(alloc: Global, sides: &[(u32, u32)]) -> Result<Vec<u64>, Memory>
+/// Returns the numbers of the edges of all sides, in order. Reports [`Memory`] where memory runs out.
+pub fn edge_keys(alloc: Global, sides: &[(u32, u32)]) -> Result<Vec<u64>, Memory>
     ensures keys { IfOk result (λ keys. keys.items ≡ map edge_key sides.now) }
     ensures words { OnOk result (AreWords sides.now) }
 {
     keys_by(alloc, sides, false)
 }
 
-// Returns whether the number `gap` places after the first is `key` too.
-pub(crate) fn is_again(keys: &[u64], gap: usize, key: u64) -> bool
+/// Returns whether the number `gap` places after the first is `key` too.
+#[inline]
+pub fn is_again(keys: &[u64], gap: usize, key: u64) -> bool
     ensures { result ≡ is_again gap keys.now key }
 {
     gap < keys.len() && keys[gap] == key
@@ -101,8 +104,9 @@ fn repeats(alloc: Global, keys: &[u64], gap: usize) -> Result<Vec<u64>, Memory>
     Ok(found)
 }
 
-// Returns the numbers that occur in a list more often than the limit, ascending.
-pub(crate) fn frequent(alloc: Global, keys: Vec<u64>, limit: usize) -> Result<Vec<u64>, Memory>
+/// Returns the numbers that occur in a list more often than the limit, ascending; one of them may be listed more than once. Reports
+/// [`Memory`] where memory runs out.
+pub fn frequent(alloc: Global, keys: Vec<u64>, limit: usize) -> Result<Vec<u64>, Memory>
     ensures rises { IfOk result (λ found. Rises found.items) }
     ensures often { IfOk result (λ found. (n : ℕ) → is_among found.items n ≡ nat_lt limit (count_by (nat_eq n) keys.items)) }
 {
@@ -112,8 +116,8 @@ pub(crate) fn frequent(alloc: Global, keys: Vec<u64>, limit: usize) -> Result<Ve
     Ok(found)
 }
 
-// Returns the numbers that occur once among ascending numbers.
-pub(crate) fn unrepeated(alloc: Global, keys: &[u64]) -> Result<Vec<u64>, Memory>
+/// Returns the numbers that occur once among ascending numbers. Reports [`Memory`] where memory runs out.
+pub fn unrepeated(alloc: Global, keys: &[u64]) -> Result<Vec<u64>, Memory>
     requires { Rises keys.now }
     ensures rises { IfOk result (λ found. Rises found.items) }
     ensures once { IfOk result (λ found. (n : ℕ) → is_among found.items n ≡ nat_eq (count_by (nat_eq n) keys.now) 1) }
@@ -130,8 +134,8 @@ pub(crate) fn unrepeated(alloc: Global, keys: &[u64]) -> Result<Vec<u64>, Memory
     Ok(found)
 }
 
-// Returns ascending numbers, each once.
-pub(crate) fn each_once(alloc: Global, keys: &[u64]) -> Result<Vec<u64>, Memory>
+/// Returns ascending numbers, each once. Reports [`Memory`] where memory runs out.
+pub fn each_once(alloc: Global, keys: &[u64]) -> Result<Vec<u64>, Memory>
     ensures { IfOk result (λ found. found.items ≡ each_once keys.now) }
 {
     let mut found = Vec::new(alloc);
@@ -144,8 +148,9 @@ pub(crate) fn each_once(alloc: Global, keys: &[u64]) -> Result<Vec<u64>, Memory>
     Ok(found)
 }
 
-// Returns whether a number is among ascending numbers.
-pub(crate) fn is_known(keys: &[u64], key: u64) -> bool
+/// Returns whether a number is among ascending numbers, by binary search.
+#[inline]
+pub fn is_known(keys: &[u64], key: u64) -> bool
     requires { Rises keys.now }
     ensures { result ≡ is_among keys.now key }
 {

@@ -1,6 +1,6 @@
 use Rattle.std.proofs.Common.{◌≡◌, ◌++◌, map, length}
-use Rattle.mesh_check.specs.Keys.{AreWords, key_by}
-use Rattle.mesh_check.proofs.keys.keys_by.Given as goal
+use Rattle.sorted_keys.specs.Keys.{AreWords, key_by}
+use Rattle.sorted_keys.proofs.keys.keys_by.Given as goal
 
 -- the numbers that are there, and those of the rest, are all
 abbrev pub invariant-loop-rest : goal.invariant-loop-rest

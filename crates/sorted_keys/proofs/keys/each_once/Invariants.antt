@@ -1,6 +1,6 @@
 use Rattle.std.proofs.Common.{◌≡◌, ◌++◌, length}
-use Rattle.mesh_check.specs.Keys.{each_once}
-use Rattle.mesh_check.proofs.keys.each_once.Given as goal
+use Rattle.sorted_keys.specs.Keys.{each_once}
+use Rattle.sorted_keys.proofs.keys.each_once.Given as goal
 
 -- the numbers found so far and those of the rest are all
 abbrev pub invariant-loop-rest : goal.invariant-loop-rest

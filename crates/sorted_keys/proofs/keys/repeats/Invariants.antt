@@ -1,6 +1,6 @@
 use Rattle.std.proofs.Common.{◌≡◌, ◌++◌, length}
-use Rattle.mesh_check.specs.Keys.{repeats}
-use Rattle.mesh_check.proofs.keys.repeats.Given as goal
+use Rattle.sorted_keys.specs.Keys.{repeats}
+use Rattle.sorted_keys.proofs.keys.repeats.Given as goal
 
 -- the numbers found so far and those of the rest are all
 abbrev pub invariant-loop-rest : goal.invariant-loop-rest

@@ -1,0 +1,4 @@
+pub mod KeyLemmas
+pub mod UnrepeatedLemmas
+pub mod RestLemmas
+pub mod SearchLemmas
