@@ -15,7 +15,7 @@ use Rattle.table_file.specs.Read.{TableRead}
 use Rattle.fault_record.specs.Back.{IsRecordOf}
 use Rattle.fault_record.specs.declared.record.FaultRecord.{FaultRecord}
 use Rattle.stored_arrays.specs.Texts.{IsReadOf, IsRefusedFor, read_refusal, reading_refusal, text_limit}
-use Rattle.stored_arrays.specs.Checked.{IsTextChecked, IsWhole, check_refusal}
+use Rattle.stored_arrays.specs.Checked.{IsCompared, IsTextChecked, IsWhole, check_refusal}
 
 -- the refusal is passed on
 pub handed-on : {X : Type 0} (Good : X → Type 0) (Refused : FaultRecord → Type 0) (r : Result X FaultRecord) (found : FaultRecord) → IsErr r → IsErrAnd r (λ g. g ≡ found) → Refused found
@@ -66,7 +66,7 @@ bytes-behind text read is line found more behind recorded own =
 
 -- a whole table is compared
 pub compared : (own stored : tables.Table) (text : List ℕ) (r : Result ℕ FaultRecord) → IsWhole text stored
-    → MatchResult r (λ rows. (first_difference stored own ≡ None) × (rows ≡ length own.rows)) (IsRefusedFor (option_map Differs (first_difference stored own)))
+    → IsCompared stored own r
     → IsTextChecked own text r
 compared own stored text (Ok rows) whole same =
     let is = table-written text (record { table = stored; rest = [] }) whole.read in

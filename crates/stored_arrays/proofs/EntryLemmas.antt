@@ -11,13 +11,13 @@ use Rattle.table_laws.proofs.WrittenLemmas.{is-row}
 use Rattle.stencil_apply.specs.Arrays.{row_of, shares_of}
 use Rattle.stencil_apply.specs.declared.entry.Entry.{Entry}
 use Rattle.stored_arrays.specs.Entries.{IsJudged, is_row}
-use Rattle.stored_arrays.specs.Rows.{number_at, row_in, share_at, shares_between, start_of}
+use Rattle.stored_arrays.specs.Rows.{number_at, row_in, share_at, share_range, start_of}
 use Rattle.stored_arrays.specs.declared.rows.ExactRows.{ExactRows}
 
 -- one more entry
-pub shares-more : (rows : ExactRows) (from at numerator : ℕ) (items new : List Entry) → from ≤ at → shares_of items ≡ shares_between rows from at
+pub shares-more : (rows : ExactRows) (from at numerator : ℕ) (items new : List Entry) → from ≤ at → shares_of items ≡ share_range rows from at
     → numerator ≡ number_at rows.numerators.now at → new ≡ items ++ (record { index = get_or rows.indices.now at 0; numerator = numerator }) ∷ []
-    → shares_of new ≡ shares_between rows from (at + 1)
+    → shares_of new ≡ share_range rows from (at + 1)
 shares-more rows from at numerator items new forward so_far is pushed =
     let entry : Entry = record { index = get_or rows.indices.now at 0; numerator = numerator } in
     let count : at + 1 - from ≡ at - from + 1 = omega arith in
@@ -25,7 +25,7 @@ shares-more rows from at numerator items new forward so_far is pushed =
     ap shares_of pushed
     ∙ map-append (λ (e : Entry). (e.index, e.numerator)) items (entry ∷ [])
     ∙ ap (λ (shares : List Share). shares ++ (get_or rows.indices.now at 0, numerator) ∷ []) so_far
-    ∙ ap (λ n. shares_between rows from at ++ (get_or rows.indices.now at 0, n) ∷ []) is
+    ∙ ap (λ n. share_range rows from at ++ (get_or rows.indices.now at 0, n) ∷ []) is
     ∙ sym (map-range_with_len_more (share_at rows) from (at - from) at place)
     ∙ ap (λ n. map (share_at rows) (range_with_len from n)) (sym count)
 

@@ -1,11 +1,11 @@
 -- The comparison of a text with the table of a mesh in a caller's arrays.
-use Rattle.std.specs.Prelude.{ℕ, ◌≡◌, ◌≤◌, ◌⊎◌, nat_lt, List, [], length, Option, Some, None, Result, Ok, MatchResult, if◌then◌else◌}
-use Rattle.subdiv_model.specs.Fault.{Fault, Long}
+use Rattle.std.specs.Prelude.{ℕ, ◌≡◌, ◌≤◌, ◌⊎◌, nat_lt, List, [], length, Option, Some, None, option_map, Result, Ok, MatchResult, if◌then◌else◌}
+use Rattle.subdiv_model.specs.Fault.{Fault, Long, Differs}
 use Rattle.subdiv_model.specs.ReadTable.{read_table}
 use Rattle.subdiv_model.specs.Table.{Table}
 use Rattle.subdiv_model.specs.TableText.{text_of_table}
 use Rattle.far_model.specs.Answer.{own_table, table_faults}
-use Rattle.far_model.specs.Stored.{stored_fault}
+use Rattle.far_model.specs.Stored.{first_difference, stored_fault}
 use Rattle.mesh_answers.specs.Refusals.{refusal_by}
 use Rattle.mesh_arrays.specs.Arrays.{mesh_of_arrays}
 use Rattle.mesh_arrays.specs.Faults.{IsMeshOf}
@@ -49,6 +49,13 @@ pub record IsWhole (text : List ℕ) (table : Table) : Type 0 where
 -- the table whose exact text these bytes are, or the record of the text's fault beside any table
 abbrev pub IsWholeTable : List ℕ → Result Table FaultRecord → Type 0
 IsWholeTable text result = MatchResult result (IsWhole text) (λ found. (own : Table) → IsRefusedFor (check_refusal own text) found)
+
+-- the number of rows of two equal tables, or the record of the first row in which they differ
+abbrev pub IsCompared : Table → Table → Result ℕ FaultRecord → Type 0
+IsCompared stored own result =
+    MatchResult result
+    (λ rows. (first_difference stored own ≡ None) × (rows ≡ length own.rows))
+    (IsRefusedFor (option_map Differs (first_difference stored own)))
 
 -- the text is that of the table, which has this number of rows
 pub record IsTextOf (own : Table) (text : List ℕ) (rows : ℕ) : Type 0 where

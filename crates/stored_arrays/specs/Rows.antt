@@ -21,14 +21,14 @@ abbrev pub share_at : ExactRows → ℕ → Share
 share_at rows place = (get_or rows.indices.now place 0, number_at rows.numerators.now place)
 
 -- the entries from one place up to another
-abbrev pub shares_between : ExactRows → ℕ → ℕ → List Share
-shares_between rows from to = map (share_at rows) (range_with_len from (to - from))
+abbrev pub share_range : ExactRows → ℕ → ℕ → List Share
+share_range rows from to = map (share_at rows) (range_with_len from (to - from))
 
 -- a row: its denominator, and the entries up to the start of the next row
 abbrev pub row_in : ExactRows → ℕ → Row
 row_in rows r = record {
   den = number_at rows.denominators.now r;
-  shares = shares_between rows (start_of rows r) (start_of rows (r + 1));
+  shares = share_range rows (start_of rows r) (start_of rows (r + 1));
 }
 
 -- the first rows of the arrays

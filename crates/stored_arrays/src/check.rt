@@ -1,10 +1,7 @@
 //! The comparison of a stored table with the table of a mesh in arrays.
 
-ghost use Rattle.std.specs.Prelude.{◌≡◌, length, nat_eq, MatchResult, option_map};
-ghost use Rattle.subdiv_model.specs.Fault.{Differs};
-ghost use Rattle.far_model.specs.Stored as model;
-ghost use Rattle.stored_arrays.specs.Checked.{IsChecked, IsOwnTable, IsTextChecked, IsWholeTable};
-ghost use Rattle.stored_arrays.specs.Texts.{IsRefusedFor};
+ghost use Rattle.std.specs.Prelude.{◌≡◌, length, nat_eq};
+ghost use Rattle.stored_arrays.specs.Checked.{IsChecked, IsCompared, IsOwnTable, IsTextChecked, IsWholeTable};
 
 use crate::read::read_stored;
 use array_answers::refine_arrays;
@@ -55,9 +52,7 @@ fn whole_table(alloc: Global, text: &[u8]) -> Result<StencilTable, FaultRecord>
 
 // The number of rows of a table that equals the mesh's own, or the fault.
 fn compare(stored: &StencilTable, own: &StencilTable) -> Result<u32, FaultRecord>
-    ensures { MatchResult result
-        (λ rows. (model.first_difference stored.now own.now ≡ None) × (rows ≡ length own.now.rows))
-        (IsRefusedFor (option_map Differs (model.first_difference stored.now own.now))) }
+    ensures { IsCompared stored.now own.now result }
 {
     match first_difference(stored, own) {
         None => Ok(own.rows()),

@@ -6,7 +6,7 @@ ghost use Rattle.subdiv_model.specs.ReadTable.{are_shares_in_range, is_term};
 ghost use Rattle.subdiv_model.specs.Table.{total_of};
 ghost use Rattle.stencil_apply.specs.Arrays.{row_of, shares_of};
 ghost use Rattle.stored_arrays.specs.Entries.{IsJudged, is_row};
-ghost use Rattle.stored_arrays.specs.Rows.{is_in_shape, shares_between};
+ghost use Rattle.stored_arrays.specs.Rows.{is_in_shape, share_range};
 
 use crate::rows::{ExactRows, denominator_of};
 use ratio128::Memory;
@@ -24,7 +24,7 @@ fn copy_entries(
     requires forward { from ≤ to }
     requires indices { to ≤ length rows.now.indices.now }
     requires numerators { to ≤ length rows.now.numerators.now }
-    ensures { OnOk result (shares_of entries.new.items ≡ shares_between rows.now from to) }
+    ensures { OnOk result (shares_of entries.new.items ≡ share_range rows.now from to) }
 {
     entries.clear();
     for at in from..to {
