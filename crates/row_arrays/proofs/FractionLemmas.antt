@@ -92,7 +92,7 @@ nearest-more f fractions place old new num den inside kept num-is den-is nearest
 -- The facts of fractions without a fault.
 pub record AreGood (fractions : FractionArrays) (places : ℕ) : Type 0 where
   pub shared : 0 < fractions.per
-  pub room : length fractions.numerators.now ≤ places
+  pub fits : length fractions.numerators.now ≤ places
   pub enough : needed fractions ≤ length fractions.denominators.now
   pub denominators : bad_denominator fractions ≡ None
   pub numerators : bad_numerator fractions ≡ None
@@ -116,7 +116,7 @@ good-parts fractions places none =
     by false false false d e f wrong =
         let parts = either-none (bad_denominator fractions) (bad_numerator fractions) wrong in record {
           shared = above fractions.per d;
-          room = ltb-false places (length fractions.numerators.now) e;
+          fits = ltb-false places (length fractions.numerators.now) e;
           enough = ltb-false (length fractions.denominators.now) (needed fractions) f;
           denominators = parts.0;
           numerators = parts.1;

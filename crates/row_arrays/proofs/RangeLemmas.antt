@@ -22,10 +22,10 @@ prefix-joined [] ys e = refl
 prefix-joined (None ∷ xs) ys e = cc
 prefix-joined (Some x ∷ xs) ys e = ap (λ zs. x ∷ zs) (prefix-joined xs ys e)
 
-prefix-alone : (xs ys : List (Option ℤ)) → list_all is_some xs ≡ false → some_prefix (xs ++ ys) ≡ some_prefix xs
-prefix-alone [] ys e = cc
-prefix-alone (None ∷ xs) ys e = refl
-prefix-alone (Some x ∷ xs) ys e = ap (λ zs. x ∷ zs) (prefix-alone xs ys e)
+prefix-within : (xs ys : List (Option ℤ)) → list_all is_some xs ≡ false → some_prefix (xs ++ ys) ≡ some_prefix xs
+prefix-within [] ys e = cc
+prefix-within (None ∷ xs) ys e = refl
+prefix-within (Some x ∷ xs) ys e = ap (λ zs. x ∷ zs) (prefix-within xs ys e)
 
 length-prefix : (xs : List (Option ℤ)) → list_all is_some xs ≡ true → length (some_prefix xs) ≡ length xs
 length-prefix [] e = refl
@@ -126,7 +126,7 @@ module _ (rows : RowArrays) (controls : ControlArrays) (row to : ℕ) (there : r
   sums-here before whole fault some found so-far =
       sym so-far ∙ ap (λ xs. before ++ xs)
       (ap (sums_of_rows rows controls) (rows-from row to there)
-      ∙ prefix-alone (row_sums rows controls row) (flat_map (row_sums rows controls) (range_with_len (row + 1) (to - (row + 1)))) (one-missing fault some found))
+      ∙ prefix-within (row_sums rows controls row) (flat_map (row_sums rows controls) (range_with_len (row + 1) (to - (row + 1)))) (one-missing fault some found))
 
 -- The numbers written up to a row with a fault.
 pub stops-here : (numbers more : List ℤ) (at k : ℕ) (old out part : List Wide) → at + k ≤ length out → length part ≡ k → length more ≤ k →
@@ -136,8 +136,8 @@ stops-here numbers more at k old out part inside full few same put is rest =
     put-first numbers (at + length more) old (put_mid at k out part) (is ∙ sym (part-numbers at k more out part inside full few put)) (omega (arith, inside, few, same))
     (part-behind at k more out part inside full few put ∙ rest-later at (at + length more) out old old (omega arith) rest refl)
 
--- there is room for the rows behind a row
-pub room-later : (at row to width len : ℕ) → row < to → at + (to - row) * width ≤ len → (at + width) + (to - (row + 1)) * width ≤ len
-room-later at row to width len there room =
+-- the array is long enough for the rows behind a row
+pub enough-later : (at row to width len : ℕ) → row < to → at + (to - row) * width ≤ len → (at + width) + (to - (row + 1)) * width ≤ len
+enough-later at row to width len there enough =
     let more : (to - row) * width ≡ (to - (row + 1)) * width + width = ap (λ n. n * width) (omega (arith, there)) ∙ suc-mul (to - (row + 1)) width in
-    omega (arith, room, more)
+    omega (arith, enough, more)

@@ -10,6 +10,6 @@ invariant-loop-row l = record {
   fault : first_row_fault l.rows l.controls (range_with_len l.row (l.range.to - l.row)) ≡ first_row_fault l.rows l.controls (rows_of l.range);
   sums : map integer_of (take l.at l.out) ++ sums_of_rows l.rows l.controls (range_with_len l.row (l.range.to - l.row)) ≡ sums_of_rows l.rows l.controls (rows_of l.range);
   rest : drop l.at l.out ≡ drop l.at l.fn.out;
-  room : l.at + (l.range.to - l.row) * l.width ≤ length l.out;
+  enough : l.at + (l.range.to - l.row) * l.width ≤ length l.out;
   len : length l.out ≡ length l.fn.out;
 }

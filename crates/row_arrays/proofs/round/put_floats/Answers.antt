@@ -23,7 +23,7 @@ put_binary32-requires c =
     let good = good-parts c.args.fractions.now (length c.args.out.now) c.requires in
     let fits : FitsSigned w128 c.numerator_of.result = search rules in
     let both = good-denominator c.args.fractions.now c.loop-place.place c.loop-place-test.true good.shared good.enough good.denominators in record {
-      fits = omega (arith, good.room, c.loop-place-test.true, c.loop-place.invariant.len);
+      fits = omega (arith, good.fits, c.loop-place-test.true, c.loop-place.invariant.len);
       positive = omega (arith, c.denominator_of.ensures, both.0);
       den_fits = omega (arith, c.denominator_of.ensures, both.1);
       num_fits = abs-below _ _ (to_z-of_z w128 c.numerator_of.result fits) c.numerator_of.ensures.fits;
@@ -33,7 +33,7 @@ pub loop-place-preserved : goal.loop-place-preserved
 loop-place-preserved c =
     let good = good-parts c.args.fractions.now (length c.args.out.now) c.requires in
     let fits : FitsSigned w128 c.numerator_of.result = search rules in
-    let inside : c.loop-place.place < length c.put_binary32.new.out = omega (arith, good.room, c.loop-place-test.true, c.put_binary32.ensures.len, c.loop-place.invariant.len) in
+    let inside : c.loop-place.place < length c.put_binary32.new.out = omega (arith, good.fits, c.loop-place-test.true, c.put_binary32.ensures.len, c.loop-place.invariant.len) in
     record {
       nearest = nearest-more binary32 c.args.fractions.now c.loop-place.place c.loop-place.out c.put_binary32.new.out _ c.denominator_of.result inside
           c.put_binary32.ensures.kept (to_z-of_z w128 c.numerator_of.result fits ∙ c.numerator_of.ensures.value) c.denominator_of.ensures
