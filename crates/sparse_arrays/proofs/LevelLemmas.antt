@@ -52,13 +52,13 @@ values-count common (level ∷ levels) can =
     )
 
 -- a level more needs no more places than all levels
-pub level-room : (count : SparseValues Point3 → ℕ) (levels : List (SparseValues Point3)) (i : ℕ) (level : SparseValues Point3) (at len places : ℕ) → i < length levels →
+pub level-fits : (count : SparseValues Point3 → ℕ) (levels : List (SparseValues Point3)) (i : ℕ) (level : SparseValues Point3) (at len places : ℕ) → i < length levels →
     at ≡ sum_by count (take i levels) → level ≡ get_or levels i level → len ≡ count level → sum_by count levels ≤ places → at + len ≤ places
-level-room count levels i level at len places inside at_is is size fits = omega (arith, fits, counts-room count levels i level at len inside at_is (size ∙ ap count is))
+level-fits count levels i level at len places inside at_is is size fits = omega (arith, fits, counts-room count levels i level at len inside at_is (size ∙ ap count is))
 
 -- a level more needs no more places than all values, three for the numerators of each
-pub values-room : (levels : List (SparseValues Point3)) (i : ℕ) (level : SparseValues Point3) (at len nums dens : ℕ) → i < length levels → at ≡ sum_by value_count (take i levels) →
+pub values-fit : (levels : List (SparseValues Point3)) (i : ℕ) (level : SparseValues Point3) (at len nums dens : ℕ) → i < length levels → at ≡ sum_by value_count (take i levels) →
     level ≡ get_or levels i level → len ≡ vec_len level.values → 3 * sum_by value_count levels ≤ nums → sum_by value_count levels ≤ dens → (3 * at + 3 * len ≤ nums) × (at + len ≤ dens)
-values-room levels i level at len nums dens inside at_is is size fits dens_fit =
-    let room = level-room value_count levels i level at len (sum_by value_count levels) inside at_is is (omega (arith, size, level.values.ok.0)) (omega arith) in
-    (omega (arith, room, fits), omega (arith, room, dens_fit))
+values-fit levels i level at len nums dens inside at_is is size fits dens_fit =
+    let enough = level-fits value_count levels i level at len (sum_by value_count levels) inside at_is is (omega (arith, size, level.values.ok.0)) (omega arith) in
+    (omega (arith, enough, fits), omega (arith, enough, dens_fit))

@@ -3,7 +3,7 @@ use Rattle.std.proofs.lemmas.List.{length-map}
 use Rattle.flat_arrays.proofs.PartLemmas.{counts-more, counts-room, part-length}
 use Rattle.sparse_arrays.specs.Flat.{face_count, kind_number, level_kinds, level_numbers, level_sizes}
 use Rattle.sparse_arrays.proofs.FrontLemmas.{front-all, front-next}
-use Rattle.sparse_arrays.proofs.LevelLemmas.{faces-length, level-room}
+use Rattle.sparse_arrays.proofs.LevelLemmas.{faces-length, level-fits}
 use Rattle.sparse_arrays.proofs.faces.put_faces.Goals as goal
 
 pub loop-level-preserved : goal.loop-level-preserved
@@ -16,10 +16,10 @@ loop-level-preserved c =
     let new = c.fill_faces.new in
     let so_far = c.loop-level.invariant in
     let size : len ≡ face_count (get_or levels i level) = c.len-len.ensures ∙ ap face_count c.level-item.is in
-    let room = counts-room face_count levels i level at len c.loop-level-test.true so_far.at size in
-    let kinds_fit : at + len ≤ length c.loop-level.kinds = omega (arith, room, c.requires.kinds_fit, so_far.kinds_len) in
-    let numbers_fit : at + len ≤ length c.loop-level.numbers = omega (arith, room, c.requires.numbers_fit, so_far.numbers_len) in
-    let sizes_fit : at + len ≤ length c.loop-level.sizes = omega (arith, room, c.requires.sizes_fit, so_far.sizes_len) in
+    let enough = counts-room face_count levels i level at len c.loop-level-test.true so_far.at size in
+    let kinds_fit : at + len ≤ length c.loop-level.kinds = omega (arith, enough, c.requires.kinds_fit, so_far.kinds_len) in
+    let numbers_fit : at + len ≤ length c.loop-level.numbers = omega (arith, enough, c.requires.numbers_fit, so_far.numbers_len) in
+    let sizes_fit : at + len ≤ length c.loop-level.sizes = omega (arith, enough, c.requires.sizes_fit, so_far.sizes_len) in
     let kinds_len : length new.kinds ≡ len = ap length c.fill_faces.ensures.kinds ∙ length-map level.faces.faces (λ face. kind_number face.kind) ∙ sym c.len-len.ensures in
     let numbers_len : length new.numbers ≡ len = ap length c.fill_faces.ensures.numbers ∙ length-map level.faces.faces (λ face. face.number) ∙ sym c.len-len.ensures in
     let sizes_len : length new.sizes ≡ len = ap length c.fill_faces.ensures.sizes ∙ length-map level.faces.faces (λ face. length face.corners) ∙ sym c.len-len.ensures in record {
@@ -37,43 +37,43 @@ loop-level-preserved c =
 
 pub overflow_add-at : goal.overflow_add-at
 overflow_add-at c =
-    let room = level-room face_count c.args.levels.now c.loop-level.level-index c.level-item.result c.loop-level.at c.len-len.result (length c.args.kinds.now) c.loop-level-test.true
+    let enough = level-fits face_count c.args.levels.now c.loop-level.level-index c.level-item.result c.loop-level.at c.len-len.result (length c.args.kinds.now) c.loop-level-test.true
     c.loop-level.invariant.at c.level-item.is c.len-len.ensures c.requires.kinds_fit in
     search rules
 
 pub slice_bounds-fill_faces-end : goal.slice_bounds-fill_faces-end
 slice_bounds-fill_faces-end c =
-    let room = level-room face_count c.args.levels.now c.loop-level.level-index c.level-item.result c.loop-level.at c.len-len.result (length c.args.kinds.now) c.loop-level-test.true
+    let enough = level-fits face_count c.args.levels.now c.loop-level.level-index c.level-item.result c.loop-level.at c.len-len.result (length c.args.kinds.now) c.loop-level-test.true
     c.loop-level.invariant.at c.level-item.is c.len-len.ensures c.requires.kinds_fit in
     search rules
 
 pub overflow_add-at-in-loop-level : goal.overflow_add-at-in-loop-level
 overflow_add-at-in-loop-level c =
-    let room = level-room face_count c.args.levels.now c.loop-level.level-index c.level-item.result c.loop-level.at c.len-len.result (length c.args.numbers.now) c.loop-level-test.true
+    let enough = level-fits face_count c.args.levels.now c.loop-level.level-index c.level-item.result c.loop-level.at c.len-len.result (length c.args.numbers.now) c.loop-level-test.true
     c.loop-level.invariant.at c.level-item.is c.len-len.ensures c.requires.numbers_fit in
     search rules
 
 pub slice_bounds-fill_faces-end-in-loop-level : goal.slice_bounds-fill_faces-end-in-loop-level
 slice_bounds-fill_faces-end-in-loop-level c =
-    let room = level-room face_count c.args.levels.now c.loop-level.level-index c.level-item.result c.loop-level.at c.len-len.result (length c.args.numbers.now) c.loop-level-test.true
+    let enough = level-fits face_count c.args.levels.now c.loop-level.level-index c.level-item.result c.loop-level.at c.len-len.result (length c.args.numbers.now) c.loop-level-test.true
     c.loop-level.invariant.at c.level-item.is c.len-len.ensures c.requires.numbers_fit in
     search rules
 
 pub overflow_add-at-in-loop-level-2 : goal.overflow_add-at-in-loop-level-2
 overflow_add-at-in-loop-level-2 c =
-    let room = level-room face_count c.args.levels.now c.loop-level.level-index c.level-item.result c.loop-level.at c.len-len.result (length c.args.sizes.now) c.loop-level-test.true
+    let enough = level-fits face_count c.args.levels.now c.loop-level.level-index c.level-item.result c.loop-level.at c.len-len.result (length c.args.sizes.now) c.loop-level-test.true
     c.loop-level.invariant.at c.level-item.is c.len-len.ensures c.requires.sizes_fit in
     search rules
 
 pub slice_bounds-fill_faces-end-in-loop-level-2 : goal.slice_bounds-fill_faces-end-in-loop-level-2
 slice_bounds-fill_faces-end-in-loop-level-2 c =
-    let room = level-room face_count c.args.levels.now c.loop-level.level-index c.level-item.result c.loop-level.at c.len-len.result (length c.args.sizes.now) c.loop-level-test.true
+    let enough = level-fits face_count c.args.levels.now c.loop-level.level-index c.level-item.result c.loop-level.at c.len-len.result (length c.args.sizes.now) c.loop-level-test.true
     c.loop-level.invariant.at c.level-item.is c.len-len.ensures c.requires.sizes_fit in
     search rules
 
 pub overflow_add-at-in-loop-level-3 : goal.overflow_add-at-in-loop-level-3
 overflow_add-at-in-loop-level-3 c =
-    let room = level-room face_count c.args.levels.now c.loop-level.level-index c.level-item.result c.loop-level.at c.len-len.result (length c.args.kinds.now) c.loop-level-test.true
+    let enough = level-fits face_count c.args.levels.now c.loop-level.level-index c.level-item.result c.loop-level.at c.len-len.result (length c.args.kinds.now) c.loop-level-test.true
     c.loop-level.invariant.at c.level-item.is c.len-len.ensures c.requires.kinds_fit in
     search rules
 

@@ -4,7 +4,7 @@ use Rattle.flat_arrays.proofs.PartLemmas.{counts-more, counts-room, part-length}
 use Rattle.point_arrays.specs.Points.{all_numerators, all_denominators}
 use Rattle.sparse_arrays.specs.Flat.{value_count}
 use Rattle.sparse_arrays.proofs.FrontLemmas.{front-all, front-next-view, part-size}
-use Rattle.sparse_arrays.proofs.LevelLemmas.{numerators-length, denominators-length, values-room}
+use Rattle.sparse_arrays.proofs.LevelLemmas.{numerators-length, denominators-length, values-fit}
 use Rattle.sparse_arrays.proofs.points.put_points.Goals as goal
 
 pub loop-level-preserved : goal.loop-level-preserved
@@ -18,9 +18,9 @@ loop-level-preserved c =
     let new = c.fill_points.new in
     let so_far = c.loop-level.invariant in
     let size : len ≡ value_count (get_or levels i level) = omega (arith, c.len-len.ensures, level.values.ok.0, ap value_count c.level-item.is) in
-    let room = counts-room value_count levels i level at len c.loop-level-test.true so_far.at size in
-    let fits : 3 * at + 3 * len ≤ length c.loop-level.numerators = omega (arith, room, c.requires.fits, so_far.len) in
-    let dens_fit : at + len ≤ length c.loop-level.denominators = omega (arith, room, c.requires.dens_fit, so_far.dens_len) in
+    let enough = counts-room value_count levels i level at len c.loop-level-test.true so_far.at size in
+    let fits : 3 * at + 3 * len ≤ length c.loop-level.numerators = omega (arith, enough, c.requires.fits, so_far.len) in
+    let dens_fit : at + len ≤ length c.loop-level.denominators = omega (arith, enough, c.requires.dens_fit, so_far.dens_len) in
     let nums_len : length new.numerators ≡ 3 * len = c.fill_points.ensures.len ∙ part-size (3 * at) (3 * len) c.loop-level.numerators fits in
     let dens_len : length new.denominators ≡ len = c.fill_points.ensures.dens_len ∙ part-size at len c.loop-level.denominators dens_fit in record {
       at = counts-more value_count levels i level at len c.loop-level-test.true so_far.at size;
@@ -36,49 +36,49 @@ loop-level-preserved c =
 
 pub overflow_mul-at : goal.overflow_mul-at
 overflow_mul-at c =
-    let room = values-room c.args.levels.now c.loop-level.level-index c.level-item.result c.loop-level.at c.len-len.result (length c.args.numerators.now) (length c.args.denominators.now)
+    let enough = values-fit c.args.levels.now c.loop-level.level-index c.level-item.result c.loop-level.at c.len-len.result (length c.args.numerators.now) (length c.args.denominators.now)
     c.loop-level-test.true c.loop-level.invariant.at c.level-item.is c.len-len.ensures c.requires.fits c.requires.dens_fit in
     search rules
 
 pub overflow_mul-at-in-loop-level : goal.overflow_mul-at-in-loop-level
 overflow_mul-at-in-loop-level c =
-    let room = values-room c.args.levels.now c.loop-level.level-index c.level-item.result c.loop-level.at c.len-len.result (length c.args.numerators.now) (length c.args.denominators.now)
+    let enough = values-fit c.args.levels.now c.loop-level.level-index c.level-item.result c.loop-level.at c.len-len.result (length c.args.numerators.now) (length c.args.denominators.now)
     c.loop-level-test.true c.loop-level.invariant.at c.level-item.is c.len-len.ensures c.requires.fits c.requires.dens_fit in
     search rules
 
 pub overflow_mul-len : goal.overflow_mul-len
 overflow_mul-len c =
-    let room = values-room c.args.levels.now c.loop-level.level-index c.level-item.result c.loop-level.at c.len-len.result (length c.args.numerators.now) (length c.args.denominators.now)
+    let enough = values-fit c.args.levels.now c.loop-level.level-index c.level-item.result c.loop-level.at c.len-len.result (length c.args.numerators.now) (length c.args.denominators.now)
     c.loop-level-test.true c.loop-level.invariant.at c.level-item.is c.len-len.ensures c.requires.fits c.requires.dens_fit in
     search rules
 
 pub overflow_add-at : goal.overflow_add-at
 overflow_add-at c =
-    let room = values-room c.args.levels.now c.loop-level.level-index c.level-item.result c.loop-level.at c.len-len.result (length c.args.numerators.now) (length c.args.denominators.now)
+    let enough = values-fit c.args.levels.now c.loop-level.level-index c.level-item.result c.loop-level.at c.len-len.result (length c.args.numerators.now) (length c.args.denominators.now)
     c.loop-level-test.true c.loop-level.invariant.at c.level-item.is c.len-len.ensures c.requires.fits c.requires.dens_fit in
     search rules
 
 pub slice_bounds-fill_points-end : goal.slice_bounds-fill_points-end
 slice_bounds-fill_points-end c =
-    let room = values-room c.args.levels.now c.loop-level.level-index c.level-item.result c.loop-level.at c.len-len.result (length c.args.numerators.now) (length c.args.denominators.now)
+    let enough = values-fit c.args.levels.now c.loop-level.level-index c.level-item.result c.loop-level.at c.len-len.result (length c.args.numerators.now) (length c.args.denominators.now)
     c.loop-level-test.true c.loop-level.invariant.at c.level-item.is c.len-len.ensures c.requires.fits c.requires.dens_fit in
     search rules
 
 pub overflow_add-at-in-loop-level : goal.overflow_add-at-in-loop-level
 overflow_add-at-in-loop-level c =
-    let room = values-room c.args.levels.now c.loop-level.level-index c.level-item.result c.loop-level.at c.len-len.result (length c.args.numerators.now) (length c.args.denominators.now)
+    let enough = values-fit c.args.levels.now c.loop-level.level-index c.level-item.result c.loop-level.at c.len-len.result (length c.args.numerators.now) (length c.args.denominators.now)
     c.loop-level-test.true c.loop-level.invariant.at c.level-item.is c.len-len.ensures c.requires.fits c.requires.dens_fit in
     search rules
 
 pub slice_bounds-fill_points-end-in-loop-level : goal.slice_bounds-fill_points-end-in-loop-level
 slice_bounds-fill_points-end-in-loop-level c =
-    let room = values-room c.args.levels.now c.loop-level.level-index c.level-item.result c.loop-level.at c.len-len.result (length c.args.numerators.now) (length c.args.denominators.now)
+    let enough = values-fit c.args.levels.now c.loop-level.level-index c.level-item.result c.loop-level.at c.len-len.result (length c.args.numerators.now) (length c.args.denominators.now)
     c.loop-level-test.true c.loop-level.invariant.at c.level-item.is c.len-len.ensures c.requires.fits c.requires.dens_fit in
     search rules
 
 pub overflow_add-at-in-loop-level-2 : goal.overflow_add-at-in-loop-level-2
 overflow_add-at-in-loop-level-2 c =
-    let room = values-room c.args.levels.now c.loop-level.level-index c.level-item.result c.loop-level.at c.len-len.result (length c.args.numerators.now) (length c.args.denominators.now)
+    let enough = values-fit c.args.levels.now c.loop-level.level-index c.level-item.result c.loop-level.at c.len-len.result (length c.args.numerators.now) (length c.args.denominators.now)
     c.loop-level-test.true c.loop-level.invariant.at c.level-item.is c.len-len.ensures c.requires.fits c.requires.dens_fit in
     search rules
 
