@@ -53,6 +53,7 @@ TABLE = re.compile(r"^Measured on .*\n\n(?:\|.*\n)+", re.MULTILINE)
 TITLES = "Words", "Mesh", "Counted", "ns each", "ns a byte", "MB", "Bytes each", "Growth", "Instructions", "Bound"
 STEP = 8  # how many times smaller the next size is
 QUICK_FRAMES = 10
+LEAST_RATIO_OF_TIME, LEAST_RATIO = 4, 1.9  # how many times more a mesh must have that growth is told: time varies
 RUNS_OF_SMALL = 3  # how many runs of the smaller size there are for each of the larger
 LEAST_THAT_GROWS = 64
 LEAST_SIZE = {meshes.creased_character: 340 * 4**2, meshes.semi_sharp_character: 340 * 4**2}  # of makers that need one
@@ -104,10 +105,11 @@ CASES = [
     *cases_of("cube", meshes.cube, 6, ("sparse depth=10", "present faces")),
     *cases_of("its own", None, 128**2, ("gen seed=7 size={side} depth=3", "faces", "table")),
     *cases_of("one quad", meshes.sheet, 1, ("levels depth=10",)),
-    *cases_of("one fan", meshes.wheel, MILLION, ("levels depth=0", "faces", "sort")),
+    *cases_of("one fan", meshes.wheel, 2**16, ("levels depth=0", "faces", "sort")),
     *cases_of("torus of a million quads", meshes.torus, 2**20, ("levels depth=0", "faces", "edge map")),
-    *cases_of("creased sheet, hidden boundary", meshes.hidden_sheet, 1023**2, ("levels depth=0", "faces", "edge map")),
+    *cases_of("creased sheet, hidden boundary", meshes.hidden_sheet, 1023**2, ("levels depth=0",)),
     *cases_of("triangles with colliding edges", meshes.colliding, 300000, ("levels depth=0", "faces", "edge map")),
+    *cases_of("faces at one vertex, in one fan", meshes.wheel, MILLION, ("levels depth=0",)),
     *cases_of("faces at one vertex, in two fans", meshes.two_wheels, MILLION, ("levels depth=0",)),
     *cases_of("faces over one edge", meshes.one_edge, MILLION, ("levels depth=0",)),
     *cases_of("one face, by its corners", meshes.one_face, MILLION, ("levels depth=0", "corners")),
@@ -234,7 +236,7 @@ class Bench:
         for _ in range(self.runs):
             for place, size in enumerate(sizes):
                 words, made = words_of(case, size), self.texts.text_for(case, size)
-                runs[place] += [run_once(self.program, words, made.path, sink) for _ in range(RUNS_OF_SMALL if place else 1)]
+                runs[place] += [run_once(self.program, words, made.path, sink) for _ in range(runs_of(sizes, place))]
                 told[place] = told[place] or self.told_by(case, size, sink, runs[place][-1].status)
         sink.unlink()
         best = [(min(run.seconds for run in seen), max(run.peak for run in seen)) for seen in runs]
@@ -286,6 +288,11 @@ class Bench:
                 start = start or count
 
 
+def runs_of(sizes: tuple[int, ...], place: int) -> int:
+    """How many runs there are of a size in a turn: more of one that is much smaller."""
+    return RUNS_OF_SMALL if sizes[place] * STEP <= sizes[0] else 1
+
+
 def words_of(case: Case, size: int) -> str:
     return case.words.format(side=math.isqrt(size))
 
@@ -293,9 +300,10 @@ def words_of(case: Case, size: int) -> str:
 # The table
 
 
-def growth(pairs: list[tuple[float, float]]) -> str:
-    """The exponent with which the first number grows with the second, from one pair to the one before it."""
-    if len(pairs) < 2 or pairs[0][1] == pairs[1][1] or min(map(min, pairs)) <= 0:
+def growth(pairs: list[tuple[float, float]], least_ratio: float = LEAST_RATIO) -> str:
+    """The exponent with which the first number grows with the second, which is greater in the first pair; nothing where the
+    second hardly grows."""
+    if len(pairs) < 2 or min(map(min, pairs)) <= 0 or pairs[0][1] < least_ratio * pairs[1][1]:
         return ""
     (large, many), (small, few) = pairs
     return f"{round(math.log(large / small) / math.log(many / few), 2) + 0:.2f}"
@@ -317,7 +325,7 @@ def cells_of(case: Case, row: Row, counts: list[tuple[float, float]]) -> list[st
         short(large.seconds * 1e9 / large.bytes) if large.bytes else "",
         short(large.peak) if large.peak else "",
         f"{each[0]} ({each[-1]})" if len(each) > 1 else "".join(each),
-        growth([(one.seconds, one.size) for one in row.seen]),
+        growth([(one.seconds, one.size) for one in row.seen], LEAST_RATIO_OF_TIME),
         growth(counts),
         case.bound,
     ]
@@ -328,19 +336,20 @@ def line_of(cells: Iterable[str]) -> str:
     return "|" + "|".join(f" {cell} " if cell else " " for cell in cells) + "|"
 
 
-def machine(tool: Tool | None) -> str:
-    """The line above the table: where and when it was measured."""
+def machine(tool: Tool | None, runs: int) -> str:
+    """The line above the table: where, when and how it was measured."""
     cpuinfo = Path("/proc/cpuinfo")
     names = re.findall(r"^model name\s*: (.*)$", cpuinfo.read_text(), re.MULTILINE) if cpuinfo.is_file() else []
-    by = f"instructions counted by {tool('')[0]}" if tool else "instructions not counted"
-    load = f"load {os.getloadavg()[0]:.1f} at the start"
-    return f"Measured on {os.cpu_count()} processors of {names[0] if names else 'this machine'}, {time.strftime('%Y-%m-%d')}, {load}, {by}:"
+    how = f"load {os.getloadavg()[0]:.1f} at the start, least of {runs} runs, "
+    how += f"instructions counted by {tool('')[0]}" if tool else "instructions not counted"
+    where = f"{os.cpu_count()} processors of {names[0] if names else 'this machine'}"
+    return f"Measured on {where}, {time.strftime('%Y-%m-%d')}, {how}:"
 
 
 def arguments() -> argparse.Namespace:
     parser = argparse.ArgumentParser(description="Times the commands of the program on large meshes.")
     parser.add_argument("--program", type=Path, default=TOP / PROGRAM, help="the program to run")
-    parser.add_argument("--runs", type=int, default=5, help="how many runs of each mesh at its larger size")
+    parser.add_argument("--runs", type=int, default=4, help="how many runs of each mesh at its larger size")
     parser.add_argument("--only", default="", metavar="TEXT", help="only the rows whose words and mesh have this text")
     parser.add_argument("--all", action="store_true", help="also the rows that docs/performance.md has not")
     parser.add_argument("--quick", action="store_true", help=f"make the meshes {QUICK} times smaller, and count no instructions")
@@ -368,7 +377,7 @@ def main() -> int:
     cases = [case for case in CASES + SESSIONS if options.only in f"{case.words} {case.mesh}" and (options.all or case.bound)]
     with tempfile.TemporaryDirectory() as folder:
         bench = Bench(options.program.resolve(), options.runs, options.quick, Path(folder))
-        first = machine(bench.tool)
+        first = machine(bench.tool, options.runs)
         print(f"{first}\n")
         try:
             lines, faults = run_cases(bench, cases)
