@@ -24,3 +24,4 @@ pub mod FoundLemmas
 pub mod PutLemmas
 pub mod WeightedRowLemmas
 pub mod NarrowLemmas
+pub mod PowerLemmas

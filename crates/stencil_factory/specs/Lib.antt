@@ -7,6 +7,7 @@ pub mod Flat
 pub mod Composing
 pub mod Marks
 pub mod PlaceSet
+pub mod Powers
 pub mod Named
 pub mod MaskRows
 pub mod Joined

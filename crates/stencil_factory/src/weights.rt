@@ -1,7 +1,7 @@
 //! Works on the weights that a caller gave for a mask: finds the common multiple of their denominators, the points they name, and
 //! the amounts they add. It skips weights of 0.
 
-ghost use Rattle.std.specs.Prelude.{◌≡◌, ℕ, ◌*◌, ◌/◌, ◌<◌, ◌≤◌, [], ◌∷◌, length, map, get_or, OnOk};
+ghost use Rattle.std.specs.Prelude.{◌≡◌, ℕ, ◌*◌, ◌/◌, ◌<◌, ◌≤◌, true, [], ◌∷◌, length, map, get_or, OnOk};
 ghost use Rattle.std.specs.List.{All};
 ghost use Rattle.subdiv_model.specs.Multiples.{lcm_of, lcm_of_all};
 ghost use Rattle.subdiv_model.specs.Channel.{number_bound};
@@ -11,6 +11,7 @@ ghost use Rattle.stencil_factory.specs.Scratch.{added_shares};
 ghost use Rattle.stencil_factory.specs.Flat.{CanAddAll};
 ghost use Rattle.stencil_factory.specs.PlaceSet.{with_places};
 ghost use Rattle.stencil_factory.specs.Joined.{amounts_of, weighing};
+ghost use Rattle.stencil_factory.specs.Powers.{IsPower, IsGreaterPower};
 
 use crate::flat::add_point;
 use crate::place_set::PlaceSet;
@@ -32,8 +33,8 @@ fn multiple_with(multiple: u128, weight: &(u32, u128), dens: &[u128]) -> u128
     common_multiple(multiple, dens[weight.0 as usize])
 }
 
-/// Returns the least common multiple of the denominators of the points with a weight above 0, or 0 if it is above 2^126 - 1.
-pub(crate) fn multiple_of_weights(weights: &[(u32, u128)], dens: &[u128]) -> u128
+// Returns the least common multiple of the denominators of the points with a weight above 0, or 0 if it is above 2^126 - 1.
+fn common_multiple_of_weights(weights: &[(u32, u128)], dens: &[u128]) -> u128
     requires inside { All (λ share. share.0 < length dens.now) weights.now }
     requires positive { All (λ den. 0 < den) dens.now }
     requires short { All (λ den. den ≤ number_bound) dens.now }
@@ -44,6 +45,61 @@ pub(crate) fn multiple_of_weights(weights: &[(u32, u128)], dens: &[u128]) -> u12
         multiple = multiple_with(multiple, weight, dens);
     }
     multiple
+}
+
+// Returns whether a number is a power of two, from its lowest bits.
+fn is_power(n: u64) -> bool
+    requires { 0 < n }
+    ensures { result ≡ true → IsPower n }
+{
+    n >> n.trailing_zeros() == 1
+}
+
+// Returns the greater of `greatest` and the point's denominator, or 0 if either is 0, or the denominator is no power of two of 64 bits.
+// A weight of 0 leaves `greatest` unchanged.
+fn power_with(greatest: u64, weight: &(u32, u128), dens: &[u128]) -> u64
+    requires { weight.now.0 < length dens.now }
+    ensures none { weight.now.1 ≡ 0 → result ≡ greatest }
+    ensures some { 0 < weight.now.1 → 0 < result → IsGreaterPower greatest (get_or dens.now weight.now.0 0) result }
+{
+    if weight.1 == 0 {
+        return greatest;
+    }
+    let den = dens[weight.0 as usize];
+    if greatest == 0 || den == 0 || den > u64::MAX as u128 || !is_power(den as u64) {
+        return 0;
+    }
+    greatest.max(den as u64)
+}
+
+// Returns the greatest denominator of the points with a weight above 0, or 0 if one of them is no power of two of 64 bits. Of powers of
+// two the greatest is the least common multiple.
+fn greatest_power(weights: &[(u32, u128)], dens: &[u128]) -> u64
+    requires inside { All (λ share. share.0 < length dens.now) weights.now }
+    requires positive { All (λ den. 0 < den) dens.now }
+    requires short { All (λ den. den ≤ number_bound) dens.now }
+    ensures { 0 < result → result ≡ within_bound (lcm_of_all (map (λ v. get_or dens.now v 1) (support_of (weighing weights.now)))) }
+{
+    let mut greatest = 1;
+    for weight in weights {
+        greatest = power_with(greatest, weight, dens);
+    }
+    greatest
+}
+
+/// Returns the least common multiple of the denominators of the points with a weight above 0, or 0 if it is above 2^126 - 1.
+pub(crate) fn multiple_of_weights(weights: &[(u32, u128)], dens: &[u128]) -> u128
+    requires inside { All (λ share. share.0 < length dens.now) weights.now }
+    requires positive { All (λ den. 0 < den) dens.now }
+    requires short { All (λ den. den ≤ number_bound) dens.now }
+    ensures { result ≡ within_bound (lcm_of_all (map (λ v. get_or dens.now v 1) (support_of (weighing weights.now)))) }
+{
+    let greatest = greatest_power(weights, dens);
+    if greatest > 0 {
+        u128::from(greatest)
+    } else {
+        common_multiple_of_weights(weights, dens)
+    }
 }
 
 // Adds the point of a weight to the set if the weight is above 0.

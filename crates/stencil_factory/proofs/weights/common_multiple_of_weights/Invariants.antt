@@ -4,7 +4,7 @@ use Rattle.subdiv_model.specs.Multiples.{lcm_of}
 use Rattle.child_masks.specs.Survey.{within_bound}
 use Rattle.stencil_factory.specs.Rows.{support_of}
 use Rattle.stencil_factory.specs.Joined.{weighing}
-use Rattle.stencil_factory.proofs.weights.multiple_of_weights.Given as goal
+use Rattle.stencil_factory.proofs.weights.common_multiple_of_weights.Given as goal
 
 -- `multiple` is the least common multiple for the weights before this one.
 abbrev pub invariant-loop-weight : goal.invariant-loop-weight

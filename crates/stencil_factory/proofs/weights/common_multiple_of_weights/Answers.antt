@@ -1,5 +1,5 @@
 use Rattle.stencil_factory.proofs.FoundLemmas.{weights-more, weights-all}
-use Rattle.stencil_factory.proofs.weights.multiple_of_weights.Goals as goal
+use Rattle.stencil_factory.proofs.weights.common_multiple_of_weights.Goals as goal
 
 pub loop-weight-preserved : goal.loop-weight-preserved
 loop-weight-preserved c =

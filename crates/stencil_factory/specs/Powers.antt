@@ -1,0 +1,19 @@
+-- Powers of two among denominators.
+use Rattle.std.specs.Prelude.{ℕ, ◌≡◌, ◌^◌, ◌<◌, max}
+use Rattle.child_masks.specs.Survey.{within_bound}
+
+-- The number is a power of two.
+pub record IsPower (n : ℕ) : Type 0 where
+  pub exponent : ℕ
+  pub is : n ≡ 2 ^ exponent
+
+-- The second number is a power of two, and `greater` is the greater of both.
+pub record IsGreaterPower (first second greater : ℕ) : Type 0 where
+  pub some : 0 < first
+  pub power : IsPower second
+  pub is : greater ≡ max first second
+
+-- The number is a power of two. It is `multiple`, or that is above 2^126 - 1.
+pub record IsPowerWithin (n multiple : ℕ) : Type 0 where
+  pub power : IsPower n
+  pub is : n ≡ within_bound multiple
