@@ -31,6 +31,11 @@ pub record AreAround (polygons : List Polygon) (before v after : ℕ) (points : 
   pub across : points.across ≡ across_start polygons (v, after)
   pub behind : points.behind ≡ beside_end polygons (before, v)
 
+-- The three points around corner `c` of a quad.
+abbrev pub AreAroundCorner : List Polygon → ℕ → ℕ → CornerPoints → Type 0
+AreAroundCorner polygons face c points =
+    AreAround polygons (get_or (polygon_at polygons face) ((c + 3) % 4) 0) (get_or (polygon_at polygons face) c 0) (get_or (polygon_at polygons face) ((c + 1) % 4) 0) points
+
 -- the rows of a patch from its four corners and the points around them
 abbrev pub rows_around : CornerPoints → CornerPoints → CornerPoints → CornerPoints → List (List ℕ)
 rows_around a b c d =

@@ -4,7 +4,7 @@ ghost use Rattle.std.specs.Prelude.{◌≡◌, ◌+◌, ◌%◌, ◌<◌, true, 
 ghost use Rattle.std.specs.List.{position_or_len};
 ghost use Rattle.subdiv_model.specs.Polygons.{polygon_at};
 ghost use Rattle.subdiv_model.specs.Patch.{patch_points};
-ghost use Rattle.patch_bspline.specs.Around.{AreAround, rows_around, turned_corner};
+ghost use Rattle.patch_bspline.specs.Around.{AreAroundCorner, rows_around, turned_corner};
 ghost use Rattle.patch_bspline.specs.Patches.{HasPatch};
 
 use level_topology::Level;
@@ -91,11 +91,7 @@ fn corner_points(level: &Level, face: u32, c: usize) -> CornerPoints
     requires has { HasPatch level.now.level face }
     requires complete { level.now.complete ≡ replicate level.now.level.point_count true }
     requires corner { c < 4 }
-    ensures { AreAround level.now.level.polygons
-        (get_or (polygon_at level.now.level.polygons face) ((c + 3) % 4) 0)
-        (get_or (polygon_at level.now.level.polygons face) c 0)
-        (get_or (polygon_at level.now.level.polygons face) ((c + 1) % 4) 0)
-        result }
+    ensures { AreAroundCorner level.now.level.polygons face c result }
 {
     level.facts();
     let corner = level.face_vertices(face)[c];
