@@ -1,10 +1,10 @@
 -- The values of the rows of a table over controls.
-use Rattle.std.specs.Prelude.{ℕ, ◌≡◌, ◌+◌, ◌-◌, ◌*◌, ◌^◌, ◌<◌, ◌≤◌, ℤ, pos, ◌+ℤ◌, nat_eq, nat_le, max, List, [], ◌∷◌, length, map, slice_index_or, if◌then◌else◌}
+use Rattle.std.specs.Prelude.{ℕ, ◌-◌, ◌*◌, ◌^◌, ◌<◌, ◌≤◌, ℤ, pos, ◌+ℤ◌, nat_eq, nat_le, max, List, [], ◌∷◌, length, map, if◌then◌else◌}
 use Rattle.std.specs.List.{All, fold, range_with_len}
-use Rattle.ratio128.specs.Numbers.{zeros, greatest_amount}
+use Rattle.ratio128.specs.Numbers.{greatest_amount}
 use Rattle.number_width.specs.declared.width.Width.{Width}
 use Rattle.number_width.specs.declared.width.Width.TheVariants as width
-use Rattle.stencil_apply.specs.Table.{Share, Table, total_of, greatest_of, row_at, sum_of_row}
+use Rattle.stencil_apply.specs.Table.{Share, Table, total_of, greatest_of}
 
 -- the sum of the shares times the numbers of their controls is within a bound
 pub record CanSum (bound : ℕ) (shares : List Share) (controls : List (List ℤ)) : Type 0 where
@@ -22,11 +22,6 @@ word_bound = 2 ^ 63 - 1
 pub record CanSumNarrow (table : Table) (controls : List (List ℤ)) : Type 0 where
   pub short : greatest_of table ≤ word_bound
   pub room : All (λ numbers. greatest_of table * greatest_amount numbers ≤ word_bound) controls
-
--- each new place has the sum of its row, from zeros as many as the old place had; the first place is that of row `from`
-abbrev pub AreRowSums : {P : Type 0} → (P → List ℤ) → Table → List (List ℤ) → ℕ → List P → List P → Type 0
-AreRowSums {P} numbers table controls from old new = (k : ℕ) (d : P) → k < length old
-    → numbers (slice_index_or new k d) ≡ sum_of_row (zeros (numbers (slice_index_or old k d))) controls (row_at table (from + k))
 
 -- the greatest amount of all controls, or 1 if all numbers are 0
 abbrev pub greatest_of_all : List (List ℤ) → ℕ

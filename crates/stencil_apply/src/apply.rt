@@ -6,7 +6,7 @@ ghost use Rattle.subdiv_model.specs.Channel.{number_bound};
 ghost use Rattle.ratio128.specs.Numbers.{zeros, greatest_amount};
 ghost use Rattle.stencil_apply.specs.Table.{row_at, entries_of, greatest_of, rows_in, sum_of_shares, sum_of_row};
 ghost use Rattle.number_width.specs.declared.width.Width.TheVariants.{Narrow};
-ghost use Rattle.stencil_apply.specs.Means.{CanSum, CanSumNarrow, AreRowSums, word_bound, sum_width_of};
+ghost use Rattle.stencil_apply.specs.Means.{CanSum, CanSumNarrow, word_bound, sum_width_of};
 
 use crate::table::StencilTable;
 use number_width::{Natural, NumberSlice, Width};
@@ -171,7 +171,7 @@ pub fn apply_range<P: Primvar<L>, L: Ledger>(
     requires places { length out.old ≡ to - from }
     requires same_length { All (λ place. All (λ control. length (P.numbers control) ≡ length (P.numbers place)) controls.now) out.old }
     requires fits { All (λ control. greatest_of table.now * greatest_amount (P.numbers control) ≤ number_bound) controls.now }
-    ensures sums { AreRowSums P.numbers table.now (map P.numbers controls.now) from out.old out.new }
+    ensures sums { (k : ℕ) (d : P) → k < length out.old → P.numbers (slice_index_or out.new k d) ≡ sum_of_row (zeros (P.numbers (slice_index_or out.old k d))) (map P.numbers controls.now) (row_at table.now (from + k)) }
     ensures len { length out.new ≡ length out.old }
     ensures steps { steps.new ≡ steps.old + entries_of (rows_in table.now from to) }
 {
