@@ -116,9 +116,9 @@ pub cut-refined : (parent : Topology) (child : ChildTopology) (scheme : Scheme) 
     → IsSurvey parent scheme child.origins (dens_of rows) survey → greatest_of survey.dens.items * least_bound rows ≤ number_bound
     → AreAllMade parent child scheme rows hidden made → n ≡ length child.origins → n ≤ length made → refined ≡ take n made
     → AreRefined parent.level scheme child.origins rows refined
-cut-refined parent child scheme rows survey hidden made refined n survey_is kept is counted room cut =
+cut-refined parent child scheme rows survey hidden made refined n survey_is kept is counted enough cut =
     are-refined parent.level scheme child.origins rows refined
-    (ap length cut ∙ length-take-le n made room ∙ counted)
+    (ap length cut ∙ length-take-le n made enough ∙ counted)
     (λ p inside.
     let here : row_at refined p ≡ row_at made p = ap (λ l. row_at l p) cut ∙ get_or-take n made p blank (omega (arith, inside, counted)) in
     subst (IsMade parent.level rows (mask_from parent.level scheme (origin_at child.origins p))) (sym here) (each-made parent child scheme rows hidden made is p inside))

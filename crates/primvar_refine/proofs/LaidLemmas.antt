@@ -55,8 +55,8 @@ weaker-all P Q f [] h = tt
 weaker-all P Q f (x ∷ xs) h = (f x h.0, weaker-all P Q f xs h.1)
 
 -- the list is long enough for the first of them
-pub first-room : (made after : List Row) (dens more : List ℕ) (n : ℕ) → dens_of made ≡ dens ++ more → length after ≡ length made → n ≡ length dens → n ≤ length after
-first-room made after dens more n e count same =
+pub first-count : (made after : List Row) (dens more : List ℕ) (n : ℕ) → dens_of made ≡ dens ++ more → length after ≡ length made → n ≡ length dens → n ≤ length after
+first-count made after dens more n e count same =
     omega (arith, ap length e, length-map made (λ (r : Row). r.den), length-append dens more, count, same)
 
 -- the number, and all numbers over it, are within the bound of sums of a width

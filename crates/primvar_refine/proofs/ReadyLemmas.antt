@@ -230,8 +230,8 @@ module _ (width : Width) (parent : Topology) (child : ChildTopology) (scheme : S
       face-at p f among (same ∙ from) below
 
   -- the list has a place for each child point
-  pub room : length child.origins ≤ length made
-  room = omega (arith, ready.each, length-append child.origins (map FromFace hidden))
+  pub child-fits : length child.origins ≤ length made
+  child-fits = omega (arith, ready.each, length-append child.origins (map FromFace hidden))
 
   -- the hidden faces come after the child points
   origin-of-hidden : (i : ℕ) → i < length hidden → origin_at all-of (length child.origins + i) ≡ FromFace (get_or hidden i 0)
@@ -321,10 +321,10 @@ pub all-made : (parent : Topology) (child : ChildTopology) (scheme : Scheme) (ro
 all-made parent child scheme rows hidden made faces others = record { faces = faces; others = others }
 
 -- the list has places for the hidden faces after the child points
-pub hidden-room : {P : Type 0} (numbers : P → List ℤ) (width : Width) (parent : Topology) (child : ChildTopology) (scheme : Scheme) (rows : List Row) (named : List Bool) (hidden places : List ℕ)
+pub hidden-len : {P : Type 0} (numbers : P → List ℤ) (width : Width) (parent : Topology) (child : ChildTopology) (scheme : Scheme) (rows : List Row) (named : List Bool) (hidden places : List ℕ)
     (before after : List (Valued P)) (list : List ℕ) (first : ℕ) → IsReady width parent child scheme rows named hidden places (rows_of numbers before)
     → KeepDens (rows_of numbers before) (rows_of numbers after) → list ≡ hidden → first ≡ length child.origins → first + length list ≡ length after
-hidden-room numbers width parent child scheme rows named hidden places before after list first ready keep same at =
+hidden-len numbers width parent child scheme rows named hidden places before after list first ready keep same at =
     let all = length-append child.origins (map FromFace hidden) in
     let faces = length-map hidden FromFace in
     let new = length-map after (row_of numbers) in

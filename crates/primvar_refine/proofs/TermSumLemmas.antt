@@ -154,15 +154,15 @@ module _ (width : Width) (m most size : ℕ) (row : SourcePoint → Row) (start 
     next-fits : greatest_amount sums + weight_over m row t * greatest_amount (row t.source).numbers ≤ sum_bound width
     next-fits =
         let part = sum_by_more_le (λ (u : Term). u.weight) terms i none inside in
-        let room : (total_weight (take i terms) + t.weight) * (m * most) ≤ total_weight terms * (m * most) = mul-le-mul_right (m * most) part in
+        let enough : (total_weight (take i terms) + t.weight) * (m * most) ≤ total_weight terms * (m * most) = mul-le-mul_right (m * most) part in
         let own = term-most m row most t is.divides in
         let before : greatest_amount sums ≤ total_weight (take i terms) * (m * most) = greatest-within _ sums here.within in
         let next : weight_over m row t * greatest_amount (row t.source).numbers ≤ weight_over m row t * ((row t.source).den * most) =
         mul-le-mul_left (weight_over m row t) is.within in
-        small (total_weight (take i terms)) t.weight (m * most) _ (weight_over m row t * ((row t.source).den * most)) (total_weight terms * (m * most)) _ before next own room can.kept
+        small (total_weight (take i terms)) t.weight (m * most) _ (weight_over m row t * ((row t.source).den * most)) (total_weight terms * (m * most)) _ before next own enough can.kept
       where
         small : (a b k g x y h : ℕ) → g ≤ a * k → h ≤ x → x ≡ b * k → (a + b) * k ≤ y → y ≤ sum_bound width → g + h ≤ sum_bound width
-        small a b k g x y h p q e room short = omega (arith, p, q, e, room, short)
+        small a b k g x y h p q e enough short = omega (arith, p, q, e, enough, short)
 
     -- the next term can be added
     pub can-take : CanTake width m sums w r

@@ -56,9 +56,28 @@ abbrev pub CanMakeFaces : Width → Level → List Row → List PointOrigin → 
 CanMakeFaces width level rows origins made =
     (p f : ℕ) → p < length origins → origin_at origins p ≡ FromFace f → CanMake width level rows [] [] (face_mask level f) (row_at made p).den
 
+-- the hidden faces can be summed over the denominators from a place on, with sums of a width
+abbrev pub CanMakeHidden : Width → Level → List Row → ℕ → List ℕ → List Row → Type 0
+CanMakeHidden width level rows first hidden made =
+    (i : ℕ) → i < length hidden → CanMake width level rows [] [] (face_mask level (get_or hidden i 0)) (row_at made (first + i)).den
+
+-- the mask of this point can be summed over its denominator, with sums of a width
+abbrev pub CanMakePoint : Width → Level → Scheme → List Row → List PointOrigin → List ℕ → List Row → ℕ → Type 0
+CanMakePoint width level scheme rows origins places made p =
+    CanMake width level rows made places (mask_from level scheme (origin_at origins p)) (row_at made p).den
+
+-- the point has its value, unless it comes from a face
+abbrev pub IsOtherMade : Level → Scheme → List Row → List PointOrigin → List Row → ℕ → Type 0
+IsOtherMade level scheme rows origins made p =
+    is_from_face (origin_at origins p) ≡ false → IsMade level rows (mask_from level scheme (origin_at origins p)) (row_at made p)
+
 -- of the first `count` points, those that come from a face have their values
 pub record AreFacesMade (level : Level) (rows : List Row) (origins : List PointOrigin) (count : ℕ) (made : List Row) : Type 0 where
   pub each : (p f : ℕ) → p < count → p < length origins → origin_at origins p ≡ FromFace f → IsMade level rows (face_mask level f) (row_at made p)
+
+-- all points that come from a face have their values
+abbrev pub AreAllFacesMade : Level → List Row → List PointOrigin → List Row → Type 0
+AreAllFacesMade level rows origins made = AreFacesMade level rows origins (length origins) made
 
 -- of the first `count` points, those that do not come from a face have their values too
 pub record AreOthersMade (level : Level) (scheme : Scheme) (rows : List Row) (origins : List PointOrigin) (count : ℕ) (made : List Row) : Type 0 where

@@ -9,6 +9,8 @@ use Rattle.level_topology.specs.Child.{PointOrigin, ChildTopology}
 use Rattle.primvar_refine.specs.Rows.{Row, row_at, dens_of, AreGood, least_bound}
 use Rattle.child_masks.specs.Masks.{mask_from, masks_from, HasNoTransition, CanRefine, origin_at}
 use Rattle.primvar_refine.specs.Made.{AreFacesMade, AreOthersMade, terms_of_face, terms_of_hidden, terms_of_other}
+use Rattle.child_masks.specs.declared.survey.Survey.{Survey}
+use Rattle.primvar_refine.specs.declared.places.Places.{Places}
 use Rattle.primvar_refine.specs.Places.{all_origins, ArePlaces}
 use Rattle.primvar_refine.specs.Width.{sum_bound}
 
@@ -36,6 +38,11 @@ pub record IsReady (width : Width) (parent : Topology) (child : ChildTopology) (
   pub inside : All (λ f. f < length parent.level.polygons) hidden
   pub each : length made ≡ length (all_origins child.origins hidden)
   pub dens : AreDens width parent scheme rows (all_origins child.origins hidden) made
+
+-- the conditions of sums of a width hold, with the marks of a survey and the places of the faces
+abbrev pub IsReadyFor : Width → Topology → ChildTopology → Scheme → List Row → Survey → Places → List Row → Type 0
+IsReadyFor width parent child scheme rows survey places made =
+    IsReady width parent child scheme rows survey.named.items places.hidden.items places.of_faces.items made
 
 -- the number of terms of all new values
 abbrev pub all_terms : Topology → ChildTopology → Scheme → List ℕ → ℕ

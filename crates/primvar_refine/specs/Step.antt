@@ -5,8 +5,12 @@ use Rattle.subdiv_model.specs.Level.{Level}
 use Rattle.subdiv_model.specs.Value.{Value}
 use Rattle.subdiv_model.specs.Mask.{Scheme}
 use Rattle.subdiv_model.specs.Channel.{number_bound}
+use Rattle.level_topology.specs.Topology.{Topology}
 use Rattle.level_topology.specs.Child.{PointOrigin}
 use Rattle.child_masks.specs.Masks.{dens_from, values_from, HasNoTransition, IsFirstTransition, IsFirstDenominator}
+use Rattle.child_masks.specs.Survey.{IsSurvey, IsSurveyFault}
+use Rattle.child_masks.specs.declared.fault.SurveyFault.{SurveyFault}
+use Rattle.child_masks.specs.declared.survey.Survey.{Survey}
 use Rattle.primvar_refine.specs.Rows.{Row, row_at, dens_of, StandFor, AreWithin, least_bound, greatest_of}
 use Rattle.primvar_refine.specs.declared.fault.ValueFault.{ValueFault}
 use Rattle.primvar_refine.specs.declared.fault.ValueFault.TheVariants.{Transition, Denominator, TooBig, Memory}
@@ -43,6 +47,17 @@ IsValueFault level scheme origins rows (Denominator p) =
 IsValueFault level scheme origins rows (TooBig p) =
     HasNoTransition level scheme origins × IsTooBig (refined_dens level scheme origins rows) (least_bound rows) p
 IsValueFault level scheme origins rows Memory = Unit {0}
+
+-- the fault of a step whose survey has one
+abbrev pub IsFaultOfStep : SurveyFault → ValueFault → Type 0
+IsFaultOfStep found fault =
+    (level : Level) (scheme : Scheme) (origins : List PointOrigin) (rows : List Row) → IsSurveyFault level scheme origins (dens_of rows) found
+    → IsValueFault level scheme origins rows fault
+
+-- the survey of a step, or the first fault of the step
+abbrev pub IsStepSurvey : Topology → Scheme → List PointOrigin → List Row → Result Survey ValueFault → Type 0
+IsStepSurvey parent scheme origins rows result =
+    MatchResult result (IsSurvey parent scheme origins (dens_of rows)) (IsValueFault parent.level scheme origins rows)
 
 -- The values of the points from those of the points of the level, or the first fault of the step. The last argument maps
 -- values to rows.

@@ -5,7 +5,7 @@ use Rattle.std.specs.Int.{◌∣◌}
 use Rattle.subdiv_model.specs.Mask.{SourcePoint, OfPoint, OfFace, Term, total_weight}
 use Rattle.number_width.specs.declared.width.Width.{Width}
 use Rattle.ratio128.specs.Numbers.{plus_times, greatest_amount}
-use Rattle.primvar_refine.specs.Rows.{Row, row_at}
+use Rattle.primvar_refine.specs.Rows.{Row, row_at, least_bound}
 use Rattle.primvar_refine.specs.Width.{sum_bound}
 
 -- the row of a source: a point's own, or the row of the new list at the place of a face
@@ -40,3 +40,7 @@ pub record CanSum (width : Width) (m most size : ℕ) (row : SourcePoint → Row
   pub some : 0 < m
   pub short : total_weight terms * m ≤ sum_bound width
   pub kept : total_weight terms * (m * most) ≤ sum_bound width
+
+-- the terms can be summed over m, with the rows of their sources and sums of a width
+abbrev pub CanSumRows : Width → ℕ → ℕ → List Row → List Row → List ℕ → List Term → Type 0
+CanSumRows width m size rows made places terms = CanSum width m (least_bound rows) size (source_row rows made places) terms

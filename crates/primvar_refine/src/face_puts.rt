@@ -1,11 +1,10 @@
 //! The values of the new points of faces: those with a child point, and the hidden ones.
 
-ghost use Rattle.std.specs.Prelude.{◌≡◌, ℕ, ◌+◌, ◌<◌, ◌≤◌, [], length, get_or};
+ghost use Rattle.std.specs.Prelude.{◌≡◌, ℕ, ◌+◌, ◌<◌, ◌≤◌, length};
 ghost use Rattle.std.specs.List.{All, sum_by};
-ghost use Rattle.subdiv_model.specs.Mask.{face_mask};
 ghost use Rattle.primvar_refine.specs.Rows.{row_at};
 ghost use Rattle.primvar_refine.specs.View.{rows_of};
-ghost use Rattle.primvar_refine.specs.Made.{CanMake, CanMakeFaces, AreFacesMade, AreHiddenMade, KeepDens, terms_of_face, terms_of_hidden};
+ghost use Rattle.primvar_refine.specs.Made.{CanMakeFaces, CanMakeHidden, AreFacesMade, AreHiddenMade, KeepDens, terms_of_face, terms_of_hidden};
 
 use crate::Valued;
 use crate::puts::put_face;
@@ -24,7 +23,7 @@ pub(crate) fn put_faces<P: Primvar<L>, L: Ledger>(
     steps: &mut Steps<L>,
 )
     requires faces { length child.now.parent_sizes ≡ length parent.now.level.polygons }
-    requires room { length child.now.origins ≤ length made.old }
+    requires fits { length child.now.origins ≤ length made.old }
     requires can { CanMakeFaces start.now.width parent.now.level (rows_of P.numbers values.now) child.now.origins (rows_of P.numbers made.old) }
     requires alike { length (P.numbers start.now.zero.now) ≡ length (row_at (rows_of P.numbers values.now) 0).numbers }
     ensures dens { KeepDens (rows_of P.numbers made.old) (rows_of P.numbers made.new) }
@@ -51,9 +50,8 @@ pub(crate) fn put_hidden<P: Primvar<L>, L: Ledger>(
     steps: &mut Steps<L>,
 )
     requires known { All (λ f. f < length parent.now.level.polygons) hidden.now }
-    requires room { first + length hidden.now ≡ length made.old }
-    requires can { (i : ℕ) → i < length hidden.now → CanMake start.now.width parent.now.level (rows_of P.numbers values.now) [] []
-        (face_mask parent.now.level (get_or hidden.now i 0)) (row_at (rows_of P.numbers made.old) (first + i)).den }
+    requires len { first + length hidden.now ≡ length made.old }
+    requires can { CanMakeHidden start.now.width parent.now.level (rows_of P.numbers values.now) first hidden.now (rows_of P.numbers made.old) }
     requires alike { length (P.numbers start.now.zero.now) ≡ length (row_at (rows_of P.numbers values.now) 0).numbers }
     ensures dens { KeepDens (rows_of P.numbers made.old) (rows_of P.numbers made.new) }
     ensures kept { (q : ℕ) → q < first → row_at (rows_of P.numbers made.new) q ≡ row_at (rows_of P.numbers made.old) q }

@@ -1,15 +1,15 @@
 //! The values of the child points that come from vertices and edges.
 
-ghost use Rattle.std.specs.Prelude.{◌≡◌, ◌+◌, ◌<◌, true, false, length};
+ghost use Rattle.std.specs.Prelude.{◌≡◌, ◌+◌, ◌<◌, true, length};
 ghost use Rattle.std.specs.List.{sum_by};
 ghost use Rattle.mask_rules.specs.View.{scheme_of};
-ghost use Rattle.child_masks.specs.Masks.{mask_from, origin_at, is_from_face, CanRefine};
+ghost use Rattle.child_masks.specs.Masks.{origin_at, is_from_face, CanRefine};
 ghost use Rattle.child_masks.specs.MaskOf.{AreKeptFor};
 ghost use Rattle.primvar_refine.specs.Rows.{row_at};
 ghost use Rattle.primvar_refine.specs.View.{rows_of};
-ghost use Rattle.primvar_refine.specs.Made.{CanMake, IsPut, IsMade, KeepDens, AreFacesMade, AreOthersMade, terms_of_other};
+ghost use Rattle.primvar_refine.specs.Made.{CanMakePoint, IsPut, IsOtherMade, KeepDens, AreAllFacesMade, AreOthersMade, terms_of_other};
 ghost use Rattle.primvar_refine.specs.Places.{all_origins};
-ghost use Rattle.primvar_refine.specs.Ready.{IsReady};
+ghost use Rattle.primvar_refine.specs.Ready.{IsReadyFor};
 
 use crate::Valued;
 use crate::places::Places;
@@ -39,13 +39,12 @@ fn put_point<P: Primvar<L>, L: Ledger>(
     requires known { p < length child.now.origins }
     requires masks { AreKeptFor parent.now (scheme_of scheme) child.now.origins survey.now.masks }
     requires inside { p < length made.old }
-    requires can { CanMake start.now.width parent.now.level (rows_of P.numbers values.now) (rows_of P.numbers made.old) places.now
-        (mask_from parent.now.level (scheme_of scheme) (origin_at child.now.origins p)) (row_at (rows_of P.numbers made.old) p).den }
+    requires can { CanMakePoint start.now.width parent.now.level (scheme_of scheme) (rows_of P.numbers values.now) child.now.origins places.now
+        (rows_of P.numbers made.old) p }
     requires alike { length (P.numbers start.now.zero.now) ≡ length (row_at (rows_of P.numbers values.now) 0).numbers }
     ensures put { IsPut (rows_of P.numbers made.old) p (rows_of P.numbers made.new) }
     ensures same { is_from_face (origin_at child.now.origins p) ≡ true → made.new ≡ made.old }
-    ensures made { is_from_face (origin_at child.now.origins p) ≡ false
-        → IsMade parent.now.level (rows_of P.numbers values.now) (mask_from parent.now.level (scheme_of scheme) (origin_at child.now.origins p)) (row_at (rows_of P.numbers made.new) p) }
+    ensures made { IsOtherMade parent.now.level (scheme_of scheme) (rows_of P.numbers values.now) child.now.origins (rows_of P.numbers made.new) p }
     ensures steps { steps.new ≡ steps.old + terms_of_other parent.now.level (scheme_of scheme) (origin_at child.now.origins p) }
 {
     match survey.mask(parent, child, p, scheme, made_mask) {
@@ -72,15 +71,12 @@ pub(crate) fn put_points<P: Primvar<L>, L: Ledger>(
     made: &mut [Valued<P>],
     steps: &mut Steps<L>,
 )
-    requires ready { IsReady start.now.width parent.now child.now (scheme_of scheme) (rows_of P.numbers values.now) survey.now.named.items
-        places.now.hidden.items places.now.of_faces.items (rows_of P.numbers made.old) }
+    requires ready { IsReadyFor start.now.width parent.now child.now (scheme_of scheme) (rows_of P.numbers values.now) survey.now places.now (rows_of P.numbers made.old) }
     requires masks { AreKeptFor parent.now (scheme_of scheme) child.now.origins survey.now.masks }
-    requires faces { AreFacesMade parent.now.level (rows_of P.numbers values.now) (all_origins child.now.origins places.now.hidden.items)
-        (length (all_origins child.now.origins places.now.hidden.items)) (rows_of P.numbers made.old) }
+    requires faces { AreAllFacesMade parent.now.level (rows_of P.numbers values.now) (all_origins child.now.origins places.now.hidden.items) (rows_of P.numbers made.old) }
     requires alike { length (P.numbers start.now.zero.now) ≡ length (row_at (rows_of P.numbers values.now) 0).numbers }
     ensures dens { KeepDens (rows_of P.numbers made.old) (rows_of P.numbers made.new) }
-    ensures faces { AreFacesMade parent.now.level (rows_of P.numbers values.now) (all_origins child.now.origins places.now.hidden.items)
-        (length (all_origins child.now.origins places.now.hidden.items)) (rows_of P.numbers made.new) }
+    ensures faces { AreAllFacesMade parent.now.level (rows_of P.numbers values.now) (all_origins child.now.origins places.now.hidden.items) (rows_of P.numbers made.new) }
     ensures made { AreOthersMade parent.now.level (scheme_of scheme) (rows_of P.numbers values.now) child.now.origins (length child.now.origins) (rows_of P.numbers made.new) }
     ensures steps { steps.new ≡ steps.old + sum_by (terms_of_other parent.now.level (scheme_of scheme)) child.now.origins }
 {

@@ -6,10 +6,9 @@ ghost use Rattle.subdiv_model.specs.Mask.{weigh_points};
 ghost use Rattle.subdiv_model.specs.Channel.{number_bound};
 ghost use Rattle.ratio128.specs.Numbers.{plus_times, greatest_amount, zeros};
 ghost use Rattle.mask_rules.specs.View.{source_of, terms_of};
-ghost use Rattle.primvar_refine.specs.Rows.{least_bound};
 ghost use Rattle.primvar_refine.specs.View.{row_of, rows_of};
 ghost use Rattle.primvar_refine.specs.Width.{sum_bound};
-ghost use Rattle.primvar_refine.specs.Sums.{source_row, HasRow, CanSum, term_sums};
+ghost use Rattle.primvar_refine.specs.Sums.{source_row, HasRow, CanSumRows, term_sums};
 
 use crate::Valued;
 use mask_rules::{At, Term};
@@ -87,8 +86,8 @@ pub(crate) fn sum_of_terms<P: Primvar<L>, L: Ledger>(
     steps: &mut Steps<L>,
 ) -> P
     requires there { All (λ t. HasRow (rows_of P.numbers values.now) (rows_of P.numbers made.now) places.now (source_of t.at)) terms.now }
-    requires can { CanSum start.now.width multiple (least_bound (rows_of P.numbers values.now)) (length (P.numbers start.now.zero.now))
-        (source_row (rows_of P.numbers values.now) (rows_of P.numbers made.now) places.now) (terms_of terms.now) }
+    requires can { CanSumRows start.now.width multiple (length (P.numbers start.now.zero.now)) (rows_of P.numbers values.now) (rows_of P.numbers made.now)
+        places.now (terms_of terms.now) }
     ensures sum { P.numbers result ≡ term_sums multiple (source_row (rows_of P.numbers values.now) (rows_of P.numbers made.now) places.now)
         (zeros (P.numbers start.now.zero.now)) (terms_of terms.now) }
     ensures steps { steps.new ≡ steps.old + length terms.now }
@@ -117,8 +116,7 @@ pub(crate) fn sum_of_corners<P: Primvar<L>, L: Ledger>(
     steps: &mut Steps<L>,
 ) -> P
     requires there { All (λ v. v < length values.now) corners.now }
-    requires can { CanSum start.now.width multiple (least_bound (rows_of P.numbers values.now)) (length (P.numbers start.now.zero.now))
-        (source_row (rows_of P.numbers values.now) [] []) (weigh_points 1 corners.now) }
+    requires can { CanSumRows start.now.width multiple (length (P.numbers start.now.zero.now)) (rows_of P.numbers values.now) [] [] (weigh_points 1 corners.now) }
     ensures sum { P.numbers result ≡ term_sums multiple (source_row (rows_of P.numbers values.now) [] [])
         (zeros (P.numbers start.now.zero.now)) (weigh_points 1 corners.now) }
     ensures steps { steps.new ≡ steps.old + length corners.now }

@@ -12,7 +12,7 @@ ghost use Rattle.primvar_refine.specs.Step.{AreRefined};
 ghost use Rattle.child_masks.specs.Survey.{IsSurvey};
 ghost use Rattle.child_masks.specs.MaskOf.{AreKeptFor};
 ghost use Rattle.primvar_refine.specs.Made.{KeepDens};
-ghost use Rattle.primvar_refine.specs.Ready.{IsReady, AreAllMade, all_terms};
+ghost use Rattle.primvar_refine.specs.Ready.{IsReadyFor, AreAllMade, all_terms};
 
 use crate::Valued;
 use crate::face_puts::{put_faces, put_hidden};
@@ -31,7 +31,7 @@ fn push_zero<P: Primvar<L>, L: Ledger>(made: &mut Vec<Valued<P>>, zero: &P, den:
     requires { length made.old.items < vec_capacity made.old }
     ensures dens { dens_of (rows_of P.numbers made.new.items) ≡ dens_of (rows_of P.numbers made.old.items) ++ den ∷ [] }
     ensures count { length made.new.items ≡ length made.old.items + 1 }
-    ensures room { vec_capacity made.new ≡ vec_capacity made.old }
+    ensures capacity { vec_capacity made.new ≡ vec_capacity made.old }
 {
     made.push_reserved(Valued {
         value: zero.cleared(),
@@ -47,7 +47,7 @@ fn push_hidden<P: Primvar<L>, L: Ledger>(
     hidden: &[u32],
 )
     requires known { All (λ f. f < length dens.now) hidden.now }
-    requires room { length made.old.items + length hidden.now ≤ vec_capacity made.old }
+    requires fits { length made.old.items + length hidden.now ≤ vec_capacity made.old }
     ensures { dens_of (rows_of P.numbers made.new.items) ≡ dens_of (rows_of P.numbers made.old.items) ++ map (λ f. get_or dens.now f 0) hidden.now }
 {
     for f in hidden {
@@ -86,8 +86,7 @@ fn put_all<P: Primvar<L>, L: Ledger>(
     made: &mut [Valued<P>],
     steps: &mut Steps<L>,
 )
-    requires ready { IsReady start.now.width parent.now child.now (scheme_of scheme) (rows_of P.numbers values.now) survey.now.named.items
-        places.now.hidden.items places.now.of_faces.items (rows_of P.numbers made.old) }
+    requires ready { IsReadyFor start.now.width parent.now child.now (scheme_of scheme) (rows_of P.numbers values.now) survey.now places.now (rows_of P.numbers made.old) }
     requires masks { AreKeptFor parent.now (scheme_of scheme) child.now.origins survey.now.masks }
     requires alike { length (P.numbers start.now.zero.now) ≡ length (row_at (rows_of P.numbers values.now) 0).numbers }
     ensures dens { KeepDens (rows_of P.numbers made.old) (rows_of P.numbers made.new) }

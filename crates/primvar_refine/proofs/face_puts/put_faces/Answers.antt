@@ -39,7 +39,7 @@ pub put_face-requires-clause-inside : goal.put_face-requires-clause-inside
 put_face-requires-clause-inside g c =
     let inside : c.loop-p.p < length c.args.child.now.origins =
     omega (arith, c.loop-p-test.true, c.points-p-end.ensures, c.facts.ensures.is.each_point, ap (λ t. t.level.point_count) c.level.ensures) in
-    still-inside g.P.Primvar.numbers c.args.made.now c.loop-p.made c.loop-p.p c.loop-p.invariant.dens (omega (arith, c.requires.room, inside))
+    still-inside g.P.Primvar.numbers c.args.made.now c.loop-p.made c.loop-p.p c.loop-p.invariant.dens (omega (arith, c.requires.fits, inside))
 
 pub put_face-requires-clause-can : goal.put_face-requires-clause-can
 put_face-requires-clause-can g c =

@@ -19,7 +19,7 @@ put_face-requires-clause-known g c = c.requires.known c.loop-i.i 0 c.loop-i-test
 
 pub put_face-requires-clause-inside : goal.put_face-requires-clause-inside
 put_face-requires-clause-inside g c =
-    still-inside g.P.Primvar.numbers c.args.made.now c.loop-i.made (c.args.first + c.loop-i.i) c.loop-i.invariant.dens (omega (arith, c.requires.room, c.loop-i-test.true))
+    still-inside g.P.Primvar.numbers c.args.made.now c.loop-i.made (c.args.first + c.loop-i.i) c.loop-i.invariant.dens (omega (arith, c.requires.len, c.loop-i-test.true))
 
 pub put_face-requires-clause-can : goal.put_face-requires-clause-can
 put_face-requires-clause-can g c =

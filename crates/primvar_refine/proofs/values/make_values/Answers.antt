@@ -5,7 +5,7 @@ use Rattle.mask_rules.specs.View.{scheme_of}
 use Rattle.primvar_refine.specs.Rows.{dens_of}
 use Rattle.primvar_refine.specs.View.{rows_of, row_of}
 use Rattle.primvar_refine.specs.Ready.{IsReady}
-use Rattle.primvar_refine.proofs.LaidLemmas.{hidden-inside, laid, dens-counted, first-room, terms-all-made}
+use Rattle.primvar_refine.proofs.LaidLemmas.{hidden-inside, laid, dens-counted, first-count, terms-all-made}
 use Rattle.primvar_refine.proofs.FinalLemmas.{cut-refined, cut-back}
 use Rattle.primvar_refine.proofs.WidthLemmas.{sums-kept}
 use Rattle.primvar_refine.proofs.values.make_values.Goals as goal
@@ -48,7 +48,7 @@ returns-clause-refined g c =
     c.requires.child c.requires.good c.requires.survey c.requires.sums in
     cut-refined c.args.parent.now c.args.child.now (scheme_of c.args.scheme) rows c.args.survey.now c.in_ok-places.places.hidden.items after (rows_of g.P.Primvar.numbers c.truncate.new.self.items) n
     c.requires.survey (sums-kept c.args.start.now.width _ rows c.requires.sums) c.put_all.ensures.made (many ∙ counted)
-    (first-room (rows_of g.P.Primvar.numbers c.in_ok-made.made.items) after c.deref.result.now _ n c.in_ok-made.ensures count
+    (first-count (rows_of g.P.Primvar.numbers c.in_ok-made.made.items) after c.deref.result.now _ n c.in_ok-made.ensures count
     (many ∙ ap length (sym c.deref.ensures.value)))
     (ap (rows_of g.P.Primvar.numbers) cut ∙ sym (take-map (row_of g.P.Primvar.numbers) n c.put_all.new.made))
 

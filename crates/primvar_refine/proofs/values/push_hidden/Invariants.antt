@@ -9,5 +9,5 @@ abbrev pub invariant-loop-f : goal.invariant-loop-f
 invariant-loop-f g l = record {
   dens_are : dens_of (rows_of g.P.Primvar.numbers l.made.items) ≡ dens_of (rows_of g.P.Primvar.numbers l.fn.made.items) ++ map (λ f. get_or l.dens f 0) (take l.f-index l.hidden);
   count : length l.made.items ≡ length l.fn.made.items + l.f-index;
-  room : vec_capacity l.made ≡ vec_capacity l.fn.made;
+  capacity : vec_capacity l.made ≡ vec_capacity l.fn.made;
 }

@@ -4,7 +4,7 @@ use Rattle.primvar_refine.specs.View.{row_of, rows_of}
 use Rattle.std.proofs.lemmas.List.{length-map}
 use Rattle.std.specs.List.{sum_by}
 use Rattle.primvar_refine.specs.Made.{terms_of_hidden}
-use Rattle.primvar_refine.proofs.ReadyLemmas.{ready-kept, faces-can, all-made, room, keeps, hidden-room, first-hidden-can, first-together}
+use Rattle.primvar_refine.proofs.ReadyLemmas.{ready-kept, faces-can, all-made, child-fits, keeps, hidden-len, first-hidden-can, first-together}
 use Rattle.primvar_refine.proofs.values.put_all.Goals as goal
 
 pub put_faces-requires-clause-can : goal.put_faces-requires-clause-can
@@ -12,15 +12,15 @@ put_faces-requires-clause-can g c =
     faces-can c.args.start.now.width c.args.parent.now c.args.child.now (scheme_of c.args.scheme) (rows_of g.P.Primvar.numbers c.args.values.now) c.args.survey.now.named.items
     c.args.places.now.hidden.items c.args.places.now.of_faces.items (rows_of g.P.Primvar.numbers c.args.made.now) c.facts.ensures c.requires.ready c.facts-2.ensures
 
-pub put_faces-requires-clause-room : goal.put_faces-requires-clause-room
-put_faces-requires-clause-room g c =
+pub put_faces-requires-clause-fits : goal.put_faces-requires-clause-fits
+put_faces-requires-clause-fits g c =
     subst (λ n. length c.args.child.now.origins ≤ n) (length-map c.args.made.now (row_of g.P.Primvar.numbers))
-    (room c.args.start.now.width c.args.parent.now c.args.child.now (scheme_of c.args.scheme) (rows_of g.P.Primvar.numbers c.args.values.now) c.args.survey.now.named.items
+    (child-fits c.args.start.now.width c.args.parent.now c.args.child.now (scheme_of c.args.scheme) (rows_of g.P.Primvar.numbers c.args.values.now) c.args.survey.now.named.items
     c.args.places.now.hidden.items c.args.places.now.of_faces.items (rows_of g.P.Primvar.numbers c.args.made.now) c.facts.ensures c.requires.ready)
 
-pub put_hidden-requires-clause-room : goal.put_hidden-requires-clause-room
-put_hidden-requires-clause-room g c =
-    hidden-room g.P.Primvar.numbers c.args.start.now.width c.args.parent.now c.args.child.now (scheme_of c.args.scheme) (rows_of g.P.Primvar.numbers c.args.values.now) c.args.survey.now.named.items
+pub put_hidden-requires-clause-len : goal.put_hidden-requires-clause-len
+put_hidden-requires-clause-len g c =
+    hidden-len g.P.Primvar.numbers c.args.start.now.width c.args.parent.now c.args.child.now (scheme_of c.args.scheme) (rows_of g.P.Primvar.numbers c.args.values.now) c.args.survey.now.named.items
     c.args.places.now.hidden.items c.args.places.now.of_faces.items c.args.made.now c.put_faces.new.made c.deref.result.now c.points-first.result c.requires.ready c.put_faces.ensures.dens
     c.deref.ensures.value (c.points-first.ensures ∙ ap (λ t. t.level.point_count) c.level.ensures ∙ sym c.facts-2.ensures.is.each_point)
 

@@ -9,7 +9,7 @@ loop-den-init g c =
     let none = c.in_ok-made.ensures.items in record {
       dens_are = ap (λ l. dens_of (rows_of g.P.Primvar.numbers l)) none;
       count = ap length none;
-      room = c.in_ok-made.ensures.capacity;
+      fits = c.in_ok-made.ensures.capacity;
     }
 
 pub loop-den-preserved : goal.loop-den-preserved
@@ -17,7 +17,7 @@ loop-den-preserved g c = record {
   dens_are = c.push_zero.ensures.dens ∙ ap (λ l. l ++ get_or c.args.dens.now c.loop-den.den-index 0 ∷ []) c.loop-den.invariant.dens_are
       ∙ sym (take_more c.args.dens.now c.loop-den.den-index 0 c.loop-den-test.true);
   count = omega (arith, c.push_zero.ensures.count, c.loop-den.invariant.count);
-  room = omega (arith, c.push_zero.ensures.room, c.loop-den.invariant.room);
+  fits = omega (arith, c.push_zero.ensures.capacity, c.loop-den.invariant.fits);
 }
 
 pub returns : goal.returns

@@ -9,5 +9,5 @@ abbrev pub invariant-loop-den : goal.invariant-loop-den
 invariant-loop-den g l = record {
   dens_are : dens_of (rows_of g.P.Primvar.numbers l.made.items) ≡ take l.den-index l.dens;
   count : length l.made.items ≡ l.den-index;
-  room : length l.dens + length l.hidden ≤ vec_capacity l.made;
+  fits : length l.dens + length l.hidden ≤ vec_capacity l.made;
 }
