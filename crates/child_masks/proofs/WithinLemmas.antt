@@ -4,7 +4,7 @@ use Rattle.std.specs.Int.{◌∣◌}
 use Rattle.std.proofs.lemmas.Bool.Decides.{nat_tests}
 use Rattle.std.proofs.lemmas.Nat.Gcd.{le_of_dvd, dvd_refl, dvd_trans}
 use Rattle.std.proofs.lemmas.Nat.{pow-add}
-use Rattle.std.proofs.Math.Nat.{dvd-mul_left}
+use Rattle.std.proofs.Math.Nat.{dvd-mul_left, one-dvd}
 use Rattle.ratio128.specs.Ratio.{IsLcm}
 use Rattle.ratio128.proofs.LcmLemmas.{IsLcm-unique}
 use Rattle.subdiv_model.specs.Channel.{number_bound}
@@ -80,6 +80,9 @@ pub joined-one : (m c a b : ℕ) → c ≡ 1 → m ≡ within_bound a → c ≡ 
 joined-one m c a b e h k =
     let one : b ≡ 1 = sym (within-some c b (omega arith) k) ∙ e in
     h ∙ ap within_bound (sym (ap (lcm_of a) one ∙ lcm-one a))
+
+pub joined-from-one : (m c a b : ℕ) → 0 < c → m ≡ 1 → m ≡ within_bound a → c ≡ within_bound b → c ≡ within_bound (lcm_of a b)
+joined-from-one m c a b some e h k = joined-taken_in m c a b (omega (arith, e)) some (subst (λ (d : ℕ). d ∣ c) (sym e) (one-dvd c)) h k
 
 -- the least common multiple of the numbers themselves
 pub joined-exact : (m c a b r : ℕ) → 0 < m → 0 < c → r ≡ within_bound (lcm_of m c) → m ≡ within_bound a → c ≡ within_bound b → r ≡ within_bound (lcm_of a b)

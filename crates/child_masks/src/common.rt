@@ -38,6 +38,9 @@ pub fn common_multiple(m: u128, c: u128) -> u128
     if m == 0 || c == 0 {
         return 0;
     }
+    if m == 1 {
+        return c;
+    }
     if is_shift(c, m) {
         return m;
     }
