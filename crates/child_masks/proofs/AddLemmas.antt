@@ -12,16 +12,16 @@ use Rattle.mask_rules.specs.Masks.{IsMask}
 use Rattle.mask_rules.proofs.EdgeLemmas.{face-mask}
 use Rattle.child_masks.specs.declared.survey.Survey.{Survey}
 use Rattle.child_masks.specs.Survey.{within_bound}
-use Rattle.child_masks.specs.Found.{IsAmong, Tell, ArePointDenominators, AreFaceDenominators, IsAdded}
+use Rattle.child_masks.specs.Found.{IsAmong, HaveDenominators, ArePointDenominators, AreFaceDenominators, IsAdded}
 use Rattle.child_masks.proofs.WithinLemmas.{within-kept}
 use Rattle.child_masks.proofs.FaceLemmas.{face-corners, corners-three, positive-lcm, face-same}
 use Rattle.child_masks.proofs.MeanLemmas.{mean-positive}
 use Rattle.child_masks.proofs.AmongLemmas.{sources-same}
 
 -- the two lists of a survey have the denominators of the sources of a level
-pub tells : (t : Topology) (dens faces : List ℕ) → IsTopology t → ArePointDenominators t.level dens → AreFaceDenominators t.level dens faces
-    → Tell (source_denominator t.level dens) dens faces
-tells t dens faces is points known = record { positive = positive; point = point; face = face }
+pub have-denominators : (t : Topology) (dens faces : List ℕ) → IsTopology t → ArePointDenominators t.level dens → AreFaceDenominators t.level dens faces
+    → HaveDenominators (source_denominator t.level dens) dens faces
+have-denominators t dens faces is points known = record { positive = positive; point = point; face = face }
   where
     point : (v : ℕ) → v < length dens → get_or dens v 0 ≡ within_bound (get_or dens v 1)
     point v below = get_or_default dens v 0 1 below ∙ sym (within-kept (get_or dens v 1) (points.short v 1 below))
@@ -40,11 +40,11 @@ tells t dens faces is points known = record { positive = positive; point = point
 
 -- equal masks add the same
 pub added-mask : (value : SourcePoint → ℕ) (dens faces : List ℕ) (mask defined : Mask) (terms : List Term) (q : ℕ) (old new : Survey)
-    → Tell value dens faces → IsMask mask defined → is_joined defined ≡ true → terms ≡ mask.terms → q ≡ mask.denominator
-    → ((f : SourcePoint → ℕ) → Tell f dens faces → 0 < q → IsAdded (mask_denominator f (record { terms = terms; denominator = q })) terms old new)
+    → HaveDenominators value dens faces → IsMask mask defined → is_joined defined ≡ true → terms ≡ mask.terms → q ≡ mask.denominator
+    → ((f : SourcePoint → ℕ) → HaveDenominators f dens faces → 0 < q → IsAdded (mask_denominator f (record { terms = terms; denominator = q })) terms old new)
     → IsAdded (mask_denominator value defined) defined.terms old new
-added-mask value dens faces mask defined terms q old new tell is joined e k added =
-    let here = added value tell (subst (λ n. 0 < n) (sym k) (mean-positive mask is.mean)) in
+added-mask value dens faces mask defined terms q old new dens_are is joined e k added =
+    let here = added value dens_are (subst (λ n. 0 < n) (sym k) (mean-positive mask is.mean)) in
     let den : mask_denominator value (record { terms = terms; denominator = q }) ≡ mask_denominator value defined =
     ap (λ xs. mask_denominator value (record { terms = xs; denominator = q })) e
     ∙ ap (λ n. mask_denominator value (record { terms = mask.terms; denominator = n })) k

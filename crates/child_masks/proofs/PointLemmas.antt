@@ -22,7 +22,7 @@ use Rattle.child_masks.specs.Survey.{within_bound}
 use Rattle.child_masks.specs.Found.{ArePointDenominators, AreFaceDenominators, IsAdded, IsSurveyOf}
 use Rattle.child_masks.proofs.SourceLemmas.{corner-dens}
 use Rattle.child_masks.proofs.AmongLemmas.{sources-same}
-use Rattle.child_masks.proofs.AddLemmas.{tells}
+use Rattle.child_masks.proofs.AddLemmas.{have-denominators}
 
 -- the mask of a face uses only points
 no-face : (points : List ℕ) (g : ℕ) → has_source (weigh_points 1 points) (OfFace g) ≡ false
@@ -38,9 +38,9 @@ added-face t dens faces f old new is points known below added =
     let mask = face-mask t.level f (length polygon) is.simple below refl in
     let joined = joined-mask_of (weigh_points 1 polygon) (length polygon) in
     let same = corner-dens t.level f dens in
-    let tell = tells t dens faces is points known in
+    let dens_are = have-denominators t dens faces is points known in
     let here = added (mask_denominator (source_denominator t.level dens) (face_mask t.level f))
-    (subst (λ n. 0 < n) same (tell.positive (OfFace f) (subst (λ n. f < n) (sym known.count) below))) (known.each f below ∙ ap within_bound same) in
+    (subst (λ n. 0 < n) same (dens_are.positive (OfFace f) (subst (λ n. f < n) (sym known.count) below))) (known.each f below ∙ ap within_bound same) in
     record {
       positive = here.positive;
       faces = here.faces;

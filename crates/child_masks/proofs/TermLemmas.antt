@@ -11,7 +11,7 @@ use Rattle.number_laws.proofs.MultipleLemmas.{lcm_of_all-positive}
 use Rattle.mask_rules.specs.declared.mask.Term.{Term}
 use Rattle.mask_rules.specs.View.{source_of, term_of, terms_of}
 use Rattle.child_masks.specs.Survey.{within_bound}
-use Rattle.child_masks.specs.Found.{IsAmong, IsFaceAmong, Tell, AreMarked}
+use Rattle.child_masks.specs.Found.{IsAmong, IsFaceAmong, HaveDenominators, AreMarked}
 use Rattle.child_masks.proofs.FoldLemmas.{ArePositive, joined-more, joined-all}
 
 -- the denominators of the sources of the code's terms
@@ -29,11 +29,11 @@ named-at denominator terms i d inside =
     get_or-map (λ (t : model.Term). denominator t.source) (terms_of terms) i (term_of d) 1 (subst (λ n. i < n) (sym (length-map terms term_of)) inside)
     ∙ ap (λ (t : model.Term). denominator t.source) (get_or-map term_of terms i d (term_of d) inside)
 
-module _ (denominator : SourcePoint → ℕ) (dens faces : List ℕ) (tell : Tell denominator dens faces) where
+module _ (denominator : SourcePoint → ℕ) (dens faces : List ℕ) (dens_are : HaveDenominators denominator dens faces) where
   -- the denominators of the terms are above 0
   named-positive : (terms : List Term) → AllByRecursion (λ t. IsAmong (length dens) (length faces) (source_of t.at)) terms → ArePositive (dens_named denominator terms)
   named-positive [] h = tt
-  named-positive (t ∷ terms) h = (tell.positive (source_of t.at) h.0, named-positive terms h.1)
+  named-positive (t ∷ terms) h = (dens_are.positive (source_of t.at) h.0, named-positive terms h.1)
 
   -- the denominators of terms are above 0, from a claim for each place
   positive-named : (terms : List Term) → All (λ t. IsAmong (length dens) (length faces) (source_of t.at)) terms → ArePositive (dens_named denominator terms)

@@ -1,13 +1,13 @@
 -- The progress of a survey, and what each mask adds to it.
-use Rattle.std.specs.Prelude.{ℕ, ◌≡◌, ◌+◌, ◌^◌, ◌<◌, ◌≤◌, Bool, true, false, ◌||◌, List, [], ◌∷◌, ◌++◌, length, map, get_or}
+use Rattle.std.specs.Prelude.{ℕ, ◌≡◌, ◌+◌, ◌^◌, ◌<◌, ◌≤◌, Bool, true, false, ◌||◌, List, [], ◌∷◌, ◌++◌, IsTrue, length, map, get_or}
 use Rattle.std.specs.List.{All, list_any}
 use Rattle.subdiv_model.specs.Level.{Level}
-use Rattle.subdiv_model.specs.Mask.{Scheme, SourcePoint, OfPoint, OfFace, Term, has_source}
+use Rattle.subdiv_model.specs.Mask.{Scheme, SourcePoint, OfPoint, OfFace, Term, Mask, has_source}
 use Rattle.subdiv_model.specs.Refined.{mask_denominator, source_denominator}
 use Rattle.subdiv_model.specs.Channel.{number_bound, transition_overflows_at}
 use Rattle.level_topology.specs.Topology.{Topology}
 use Rattle.level_topology.specs.Child.{PointOrigin, FromVertex}
-use Rattle.child_masks.specs.Masks.{mask_from, masks_from, dens_from, HasNoTransition}
+use Rattle.child_masks.specs.Masks.{mask_from, masks_from, dens_from, HasNoTransition, has_origin}
 use Rattle.child_masks.specs.Survey.{within_bound}
 use Rattle.child_masks.specs.MaskOf.{AreKeptFor, AreKeptWith}
 use Rattle.child_masks.specs.declared.survey.Survey.{Survey}
@@ -25,7 +25,7 @@ IsFaceAmong faces (OfPoint v) = Unit {0}
 IsFaceAmong faces (OfFace f) = f < faces
 
 -- two lists have the denominators of the sources, each at least 1, and 0 for one above the bound
-pub record Tell (denominator : SourcePoint → ℕ) (dens faces : List ℕ) : Type 0 where
+pub record HaveDenominators (denominator : SourcePoint → ℕ) (dens faces : List ℕ) : Type 0 where
   pub positive : (source : SourcePoint) → IsAmong (length dens) (length faces) source → 0 < denominator source
   pub point : (v : ℕ) → v < length dens → get_or dens v 0 ≡ within_bound (denominator (OfPoint v))
   pub face : (f : ℕ) → f < length faces → get_or faces f 0 ≡ within_bound (denominator (OfFace f))
@@ -52,6 +52,11 @@ pub record IsAdded (den : ℕ) (terms : List Term) (old new : Survey) : Type 0 w
   pub faces : new.faces.items ≡ old.faces.items
   pub dens : new.dens.items ≡ old.dens.items ++ within_bound den ∷ []
   pub named : AreMarked old.named.items terms new.named.items
+
+-- this mask is added, whatever denominators the lists stand for
+abbrev pub IsMaskAdded : List ℕ → Mask → Survey → Survey → Type 0
+IsMaskAdded dens mask old new =
+    (value : SourcePoint → ℕ) → HaveDenominators value dens old.faces.items → 0 < mask.denominator → IsAdded (mask_denominator value mask) mask.terms old new
 
 -- The mask of a child point is added, and no weight is refused there. The mask of a vertex is kept, unless the vertex is
 -- plain.
@@ -84,3 +89,7 @@ abbrev pub IsPointFault : Level → Scheme → PointOrigin → SurveyFault → T
 IsPointFault level scheme origin (Transition v) = (origin ≡ FromVertex v) × (transition_overflows_at level scheme v ≡ true)
 IsPointFault level scheme origin (Denominator p) = ⊥
 IsPointFault level scheme origin Memory = Unit {0}
+
+-- the vertex has a child point, and this is the reason why it has no mask
+abbrev pub IsRefusalAt : Level → Scheme → List PointOrigin → ℕ → SurveyFault → Type 0
+IsRefusalAt level scheme origins v fault = IsTrue (has_origin origins (FromVertex v)) × IsPointFault level scheme (FromVertex v) fault

@@ -76,6 +76,10 @@ abbrev pub HasNoTransition : Level → Scheme → List PointOrigin → Type 0
 HasNoTransition level scheme origins =
     (v : ℕ) → IsTrue (has_origin origins (FromVertex v)) → transition_overflows_at level scheme v ≡ false
 
+-- no weight is refused at this vertex, if it has a child point
+abbrev pub HasNoTransitionAt : Level → Scheme → List PointOrigin → ℕ → Type 0
+HasNoTransitionAt level scheme origins v = IsTrue (has_origin origins (FromVertex v)) → transition_overflows_at level scheme v ≡ false
+
 -- the least vertex with a child point at which a weight is refused
 pub record IsFirstTransition (level : Level) (scheme : Scheme) (origins : List PointOrigin) (v : ℕ) : Type 0 where
   pub has : IsTrue (has_origin origins (FromVertex v))

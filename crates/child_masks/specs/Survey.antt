@@ -1,5 +1,5 @@
 -- The result of a survey.
-use Rattle.std.specs.Prelude.{ℕ, ◌≡◌, ◌<◌, ◌≤◌, nat_le, false, List, length, get_or, if◌then◌else◌}
+use Rattle.std.specs.Prelude.{ℕ, ◌≡◌, ◌≢◌, ◌<◌, ◌≤◌, nat_le, false, List, length, get_or, if◌then◌else◌}
 use Rattle.std.specs.List.{All, list_any}
 use Rattle.subdiv_model.specs.Level.{Level}
 use Rattle.subdiv_model.specs.Mask.{Scheme, OfFace, has_source}
@@ -16,6 +16,14 @@ use Rattle.child_masks.specs.declared.fault.SurveyFault.TheVariants.{Transition,
 -- the number, or 0 if it is above the bound of denominators
 abbrev pub within_bound : ℕ → ℕ
 within_bound n = if nat_le n number_bound then n else 0
+
+-- no number of the list is 0
+abbrev pub HasNoZero : List ℕ → Type 0
+HasNoZero dens = (q : ℕ) → q < length dens → get_or dens q 1 ≢ 0
+
+-- the least place of the list with 0
+abbrev pub IsFirstZero : List ℕ → ℕ → Type 0
+IsFirstZero dens p = (p < length dens) × (get_or dens p 1 ≡ 0) × ((q : ℕ) → q < p → get_or dens q 1 ≢ 0)
 
 -- The denominators of the points follow from those before them and are within their bound, and no weight is refused. The
 -- denominator of the new point of a face is 0 if it is above the bound; a face is marked where some mask uses it. The masks

@@ -2,9 +2,8 @@
 
 ghost use Rattle.std.specs.Prelude.{◌≡◌, ℕ, ◌^◌, ◌<◌, false, List, [], length, get_or, OnOk, MatchResult, IfOk};
 ghost use Rattle.std.specs.List.{All};
-ghost use Rattle.subdiv_model.specs.Mask.{SourcePoint, vertex_mask};
+ghost use Rattle.subdiv_model.specs.Mask.{vertex_mask};
 ghost use Rattle.subdiv_model.specs.Mask as model;
-ghost use Rattle.subdiv_model.specs.Refined.{mask_denominator};
 ghost use Rattle.level_topology.specs.Child.{FromVertex, FromEdge};
 ghost use Rattle.level_topology.specs.ChildTables.{origin_of};
 ghost use Rattle.mask_rules.specs.View.{scheme_of, source_of, terms_of};
@@ -14,7 +13,7 @@ ghost use Rattle.child_masks.specs.Masks.{CanRefine, origin_at};
 ghost use Rattle.child_masks.specs.View.{seen_terms};
 ghost use Rattle.child_masks.specs.MaskOf.{IsMaskOf, IsKeptFor, AreKeptFor};
 ghost use Rattle.child_masks.specs.Survey.{within_bound, IsSurvey, IsSurveyFault};
-ghost use Rattle.child_masks.specs.Found.{IsAmong, Tell, ArePointDenominators, IsAdded, IsPointAdded, CanAdd, IsSurveyOf, IsPointFault};
+ghost use Rattle.child_masks.specs.Found.{IsAmong, ArePointDenominators, IsAdded, IsMaskAdded, IsPointAdded, CanAdd, IsSurveyOf, IsPointFault};
 ghost use Rattle.child_masks.specs.Known.{IsVertexKnown, IsEdgeKnown, IsPartKnown};
 
 use crate::common::scaled;
@@ -63,8 +62,7 @@ impl Survey {
     fn add_mask(&mut self, dens: &[u128], terms: &[Term], denominator: u128) -> Result<(), Memory>
         requires among { All (λ t. IsAmong (length dens.now) (length self.old.faces.items) (source_of t.at)) terms.now }
         requires beside { length self.old.named.items ≡ length self.old.faces.items }
-        ensures added { OnOk result ((value : SourcePoint → ℕ) → Tell value dens.now self.old.faces.items → 0 < denominator
-            → IsAdded (mask_denominator value (record { terms = terms_of terms.now; denominator = denominator })) (terms_of terms.now) self.old self.new) }
+        ensures added { OnOk result (IsMaskAdded dens.now (record { terms = terms_of terms.now; denominator = denominator }) self.old self.new) }
         ensures masks { self.new.masks ≡ self.old.masks }
     {
         let multiple = multiple_of_terms(terms, dens, &self.faces);

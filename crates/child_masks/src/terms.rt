@@ -6,7 +6,7 @@ ghost use Rattle.subdiv_model.specs.Mask.{SourcePoint};
 ghost use Rattle.subdiv_model.specs.Multiples.{lcm_of_all};
 ghost use Rattle.mask_rules.specs.View.{source_of, term_of, terms_of};
 ghost use Rattle.child_masks.specs.Survey.{within_bound};
-ghost use Rattle.child_masks.specs.Found.{IsAmong, IsFaceAmong, Tell, AreMarked};
+ghost use Rattle.child_masks.specs.Found.{IsAmong, IsFaceAmong, HaveDenominators, AreMarked};
 
 use crate::common::common_multiple;
 use mask_rules::{At, Term};
@@ -14,7 +14,7 @@ use mask_rules::{At, Term};
 // Returns the denominator of a source, from those of the points and of the new points of the faces.
 fn denominator_at(at: At, dens: &[u128], faces: &[u128]) -> u128
     requires { IsAmong (length dens.now) (length faces.now) (source_of at) }
-    ensures { (denominator : SourcePoint → ℕ) → Tell denominator dens.now faces.now → result ≡ within_bound (denominator (source_of at)) }
+    ensures { (denominator : SourcePoint → ℕ) → HaveDenominators denominator dens.now faces.now → result ≡ within_bound (denominator (source_of at)) }
 {
     match at {
         At::Point(v) => dens[v as usize],
@@ -25,7 +25,7 @@ fn denominator_at(at: At, dens: &[u128], faces: &[u128]) -> u128
 /// Returns the least common multiple of the denominators of all sources.
 pub(crate) fn multiple_of_terms(terms: &[Term], dens: &[u128], faces: &[u128]) -> u128
     requires { All (λ t. IsAmong (length dens.now) (length faces.now) (source_of t.at)) terms.now }
-    ensures { (denominator : SourcePoint → ℕ) → Tell denominator dens.now faces.now
+    ensures { (denominator : SourcePoint → ℕ) → HaveDenominators denominator dens.now faces.now
         → result ≡ within_bound (lcm_of_all (map (λ t. denominator t.source) (terms_of terms.now))) }
 {
     let mut multiple = 1;

@@ -1,12 +1,12 @@
 //! The least vertex whose mask is refused.
 
-ghost use Rattle.std.specs.Prelude.{◌≡◌, ℕ, ◌<◌, true, false, List, IsTrue, MatchOption};
+ghost use Rattle.std.specs.Prelude.{◌≡◌, ℕ, ◌<◌, true, List, IsTrue, MatchOption};
 ghost use Rattle.subdiv_model.specs.Channel.{transition_overflows_at};
 ghost use Rattle.level_topology.specs.Child.{FromVertex};
 ghost use Rattle.mask_rules.specs.View.{scheme_of};
-ghost use Rattle.child_masks.specs.Masks.{CanRefine, has_origin};
+ghost use Rattle.child_masks.specs.Masks.{CanRefine, HasNoTransitionAt, has_origin};
 ghost use Rattle.child_masks.specs.Survey.{IsSurveyFault};
-ghost use Rattle.child_masks.specs.Found.{IsPointFault};
+ghost use Rattle.child_masks.specs.Found.{IsRefusalAt};
 
 use crate::fault::SurveyFault;
 use level_topology::{Child, Level};
@@ -24,8 +24,8 @@ fn refusal(
     requires child { CanRefine parent.now child.now (scheme_of scheme) }
     requires known { v < parent.now.level.point_count }
     ensures { MatchOption result
-        (IsTrue (has_origin child.now.origins (FromVertex v)) → transition_overflows_at parent.now.level (scheme_of scheme) v ≡ false)
-        (λ fault. IsTrue (has_origin child.now.origins (FromVertex v)) × IsPointFault parent.now.level (scheme_of scheme) (FromVertex v) fault) }
+        (HasNoTransitionAt parent.now.level (scheme_of scheme) child.now.origins v)
+        (IsRefusalAt parent.now.level (scheme_of scheme) child.now.origins v) }
 {
     if child.vertex_point(v).is_none() {
         return None;

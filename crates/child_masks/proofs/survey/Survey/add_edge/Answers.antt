@@ -6,7 +6,7 @@ use Rattle.level_topology.specs.Child.{FromEdge}
 use Rattle.mask_rules.specs.View.{scheme_of}
 use Rattle.mask_rules.proofs.EqualLemmas.{joined-edge_mask}
 use Rattle.child_masks.proofs.AmongLemmas.{part-sources, among-level}
-use Rattle.child_masks.proofs.AddLemmas.{tells, added-mask}
+use Rattle.child_masks.proofs.AddLemmas.{have-denominators, added-mask}
 use Rattle.child_masks.proofs.PointLemmas.{no-vertex-edge}
 use Rattle.child_masks.proofs.survey.Survey.add_edge.Goals as goal
 
@@ -28,7 +28,7 @@ returns c =
     on_ok_weaker c.add_mask.result
     (λ added. record {
       added = added-mask (source_denominator level dens) dens faces _ (edge_mask level scheme edge) _ _ c.args.self.now c.add_mask.new.self
-          (tells c.args.parent.now dens faces c.facts.ensures c.requires.can.points c.requires.can.faces) c.put_edge.ensures (joined-edge_mask level edge scheme) c.terms.ensures c.denominator.ensures added;
+          (have-denominators c.args.parent.now dens faces c.facts.ensures c.requires.can.points c.requires.can.faces) c.put_edge.ensures (joined-edge_mask level edge scheme) c.terms.ensures c.denominator.ensures added;
       fine = no-vertex-edge level scheme c.args.e;
       kept = c.add_mask.ensures.masks;
     })

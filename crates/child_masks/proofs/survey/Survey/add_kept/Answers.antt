@@ -6,7 +6,7 @@ use Rattle.mask_rules.specs.View.{scheme_of, seen_vertex}
 use Rattle.mask_rules.proofs.EqualLemmas.{joined-vertex_mask}
 use Rattle.child_masks.proofs.AmongLemmas.{part-sources, among-level}
 use Rattle.child_masks.proofs.ResultLemmas.{of-ok}
-use Rattle.child_masks.proofs.AddLemmas.{tells, added-mask}
+use Rattle.child_masks.proofs.AddLemmas.{have-denominators, added-mask}
 use Rattle.child_masks.proofs.MaskLemmas.{stored-next, added-still}
 use Rattle.child_masks.proofs.PointLemmas.{own-vertex}
 use Rattle.child_masks.proofs.survey.Survey.add_kept.Goals as goal
@@ -28,7 +28,7 @@ returns-in-Ok c =
     record {
       added = added-still _ _ c.args.self.now c.add_mask.new.self _
           (added-mask (source_denominator level dens) dens faces (seen_vertex c.in-Ok.mask) (vertex_mask level scheme c.args.v) _ _ c.args.self.now c.add_mask.new.self
-          (tells c.args.parent.now dens faces c.facts.ensures c.requires.can.points c.requires.can.faces) mask.0 (joined-vertex_mask level c.args.v scheme) c.terms.ensures c.denominator.ensures
+          (have-denominators c.args.parent.now dens faces c.facts.ensures c.requires.can.points c.requires.can.faces) mask.0 (joined-vertex_mask level c.args.v scheme) c.terms.ensures c.denominator.ensures
           c.in_ok-add_mask-in-Ok.ensures.added) refl refl refl;
       fine = own-vertex level scheme c.args.v mask.1;
       kept = stored-next c.args.parent.now scheme c.args.v c.args.self.now.masks c.add_mask.new.self.masks _ (seen_vertex c.in-Ok.mask) c.add_mask.ensures.masks c.in_ok-keep-in-Ok.ensures mask.0 c.requires.known.known c.requires.can.kept;

@@ -7,10 +7,10 @@ use Rattle.child_masks.proofs.TermLemmas.{multiple-positive}
 use Rattle.child_masks.proofs.survey.Survey.add_mask.Goals as goal
 
 pub returns-clause-added : goal.returns-clause-added
-returns-clause-added c value tell positive =
+returns-clause-added c value dens_are positive =
     let multiple = lcm_of_all (map (λ t. value t.source) (terms_of c.args.terms.now)) in
-    let some = multiple-positive value c.args.dens.now c.args.self.now.faces.items tell c.args.terms.now c.requires.among in
-    let here = c.multiple_of_terms-multiple.ensures value (rw c.deref.ensures.value tell) in
+    let some = multiple-positive value c.args.dens.now c.args.self.now.faces.items dens_are c.args.terms.now c.requires.among in
+    let here = c.multiple_of_terms-multiple.ensures value (rw c.deref.ensures.value dens_are) in
     record {
       positive = product-positive c.args.denominator multiple positive some;
       faces = refl;

@@ -5,7 +5,7 @@ use Rattle.level_topology.specs.Child.{FromVertex}
 use Rattle.mask_rules.specs.View.{scheme_of}
 use Rattle.mask_rules.proofs.EqualLemmas.{joined-vertex_mask}
 use Rattle.child_masks.proofs.AmongLemmas.{part-sources, among-level}
-use Rattle.child_masks.proofs.AddLemmas.{tells, added-mask}
+use Rattle.child_masks.proofs.AddLemmas.{have-denominators, added-mask}
 use Rattle.child_masks.proofs.MaskLemmas.{left-next, added-still}
 use Rattle.child_masks.proofs.PointLemmas.{own-vertex}
 use Rattle.child_masks.proofs.survey.Survey.add_plain.Goals as goal
@@ -26,7 +26,7 @@ returns c =
     record {
       added = added-still _ _ c.args.self.now c.add_mask.new.self _
           (added-mask (source_denominator level dens) dens faces c.put_plain.new.self (vertex_mask level scheme c.args.v) _ _ c.args.self.now c.add_mask.new.self
-          (tells c.args.parent.now dens faces c.facts.ensures c.requires.can.points c.requires.can.faces) c.put_plain.ensures.mask (joined-vertex_mask level c.args.v scheme) c.terms.ensures c.denominator.ensures
+          (have-denominators c.args.parent.now dens faces c.facts.ensures c.requires.can.points c.requires.can.faces) c.put_plain.ensures.mask (joined-vertex_mask level c.args.v scheme) c.terms.ensures c.denominator.ensures
           c.in_ok-add_mask.ensures.added) refl refl refl;
       fine = own-vertex level scheme c.args.v c.put_plain.ensures.fine;
       kept = left-next c.args.parent.now scheme c.args.v c.args.self.now.masks c.add_mask.new.self.masks _ c.add_mask.ensures.masks c.leave.ensures c.requires.plain c.requires.known.known c.requires.can.kept;
