@@ -1,9 +1,8 @@
 //! The counts of the levels to a depth. One level is in memory at a time.
 
 ghost use Rattle.std.specs.Prelude.{◌≡◌, ◌^◌, ◌≤◌, true, map, replicate, [], ◌∷◌, ◌++◌, IfOk, MatchResult, OnOk, IsTrue};
-ghost use Rattle.subdiv_model.specs.Channel.{Channel, Sharpnesses};
 ghost use Rattle.mask_laws.specs.SharpBoundary.{has_sharp_boundary};
-ghost use Rattle.uniform_walk.specs.Faults.{IsChannelFault};
+ghost use Rattle.uniform_walk.specs.Faults.{IsFaultOfLevels};
 ghost use Rattle.uniform_walk.specs.Levels.{AreMade, AreLevelSteps};
 ghost use Rattle.level_counts.specs.Counts.{counts_of, counts_to};
 ghost use Rattle.level_counts.specs.View.{seen_counts};
@@ -24,7 +23,7 @@ struct Counting {
 
 impl Counting {
     // Returns memory for the counts of level 0 and of `depth` levels after it.
-    fn with_room(alloc: Global, depth: u32) -> Result<Counting, Memory>
+    fn with_capacity(alloc: Global, depth: u32) -> Result<Counting, Memory>
         requires { depth ≤ 10 }
         ensures { IfOk result (λ counting. map seen_counts counting.counts.items ≡ []) }
     {
@@ -79,11 +78,11 @@ pub fn count_levels<L: Ledger>(
     requires whole { base.complete ≡ replicate base.level.point_count true }
     requires boundary { IsTrue (has_sharp_boundary base.level) }
     ensures counted { MatchResult result (λ counts. map seen_counts counts.items ≡ counts_to base.level depth)
-        (λ fault. (channel : Channel) → channel.base ≡ base.level → IsChannelFault Sharpnesses channel depth fault) }
+        (IsFaultOfLevels base.level depth) }
     ensures made { OnOk result (AreMade base.level depth) }
     ensures steps { AreLevelSteps base.level depth steps.old steps.new }
 {
-    let mut counting = Counting::with_room(alloc, depth)?;
+    let mut counting = Counting::with_capacity(alloc, depth)?;
     let start = Reached {
         level: base,
         carried: (),
