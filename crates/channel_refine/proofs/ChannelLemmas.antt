@@ -42,7 +42,7 @@ pub record IsReached (channel : Channel) (controls : List Row) (k : ℕ) (t : To
   pub alike : All (λ row. length row.numbers ≡ length (row_at controls 0).numbers) rows
   pub positive : All (λ row. 0 < row.den) rows
   pub short : All (λ row. row.den ≤ number_bound) rows
-  pub room : All (λ row. row.den * max channel.greatest channel.common ≤ number_bound) rows
+  pub products : All (λ row. row.den * max channel.greatest channel.common ≤ number_bound) rows
 
 plus-one : (k : ℕ) → k + 1 ≡ suc k
 plus-one k = omega arith
@@ -91,11 +91,11 @@ reached-none channel base controls is level here short are =
       alike = are.alike;
       positive = λ k d h. omega (arith, are.whole k d h);
       short = λ k d h. omega (arith, are.whole k d h);
-      room = λ k d h. room (get_or controls k d).den (max channel.greatest channel.common) (are.whole k d h) short;
+      products = λ k d h. products (get_or controls k d).den (max channel.greatest channel.common) (are.whole k d h) short;
     }
   where
-    room : (den most : ℕ) → den ≡ 1 → most ≤ number_bound → den * most ≤ number_bound
-    room den most one h = subst (λ n. n * most ≤ number_bound) (sym one) (omega (arith, h))
+    products : (den most : ℕ) → den ≡ 1 → most ≤ number_bound → den * most ≤ number_bound
+    products den most one h = subst (λ n. n * most ≤ number_bound) (sym one) (omega (arith, h))
 
 first-alike : (controls rows : List Row) → length controls ≤ length rows → All (λ row. length row.numbers ≡ length (row_at controls 0).numbers) rows
     → length (row_at rows 0).numbers ≡ length (row_at controls 0).numbers
@@ -111,7 +111,7 @@ module _ (channel : Channel) (controls : List Row) (k : ℕ) (t : Topology) (row
     good = record {
       positive = is.positive;
       short = is.short;
-      kept = λ j d h. kept (greatest_amount (get_or rows j d).numbers) (get_or rows j d).den channel.greatest (max channel.greatest channel.common) number_bound (is.within j d h) (omega arith) (is.room j d h);
+      kept = λ j d h. kept (greatest_amount (get_or rows j d).numbers) (get_or rows j d).den channel.greatest (max channel.greatest channel.common) number_bound (is.within j d h) (omega arith) (is.products j d h);
       alike = alike-own rows (length (row_at controls 0).numbers) is.alike;
     };
     within = λ j d h. below (greatest_amount (get_or rows j d).numbers) (get_or rows j d).den channel.greatest (max channel.greatest channel.common) (is.within j d h) (omega arith);
@@ -129,7 +129,7 @@ module _ (channel : Channel) (controls : List Row) (k : ℕ) (t : Topology) (row
     dens = is.dens;
     values = is.values;
     within = is.within;
-    short = is.room;
+    short = is.products;
     positive = is.positive;
     alike = is.alike;
   }
@@ -170,7 +170,7 @@ module _ (channel : Channel) (controls : List Row) (k : ℕ) (t : Topology) (row
       alike = λ j d h. step.refined.alike j d h ∙ first-alike controls rows is.grown is.alike;
       positive = from-dens (λ n. 0 < n) next_rows (subst (AllByRecursion (λ n. 0 < n)) (sym next-dens) (all-positive channel.base channel.scheme (suc k) is.base));
       short = from-dens (λ n. n ≤ number_bound) next_rows (recursion_from_All (λ n. n ≤ number_bound) (dens_of next_rows) step.refined.short);
-      room = λ j d h. times (get_or next_rows j d).den (greatest_of (dens_of next_rows)) (max channel.greatest channel.common)
+      products = λ j d h. times (get_or next_rows j d).den (greatest_of (dens_of next_rows)) (max channel.greatest channel.common)
           (from-dens (λ n. n ≤ greatest_of (dens_of next_rows)) next_rows (each-below (dens_of next_rows) 1) j d h) step.fits;
     }
 

@@ -8,9 +8,9 @@ use Rattle.channel_refine.specs.Refined.{path_steps, AreRefineSteps}
 pub mapped : {X Y E : Type 0} (found : Result X E) (result : Result Y E) (Made : X → Y → Type 0) (P : X → Type 0) (Q : E → Type 0) (P' : Y → Type 0) (Q' : E → Type 0)
     → MatchResult found (λ x. IsOkAnd result (Made x)) (λ fault. result ≡ Err fault) → MatchResult found P Q
     → ((x : X) (y : Y) → Made x y → P x → P' y) → ((fault : E) → Q fault → Q' fault) → MatchResult result P' Q'
-mapped (Ok x) (Ok y) Made P Q P' Q' is p made told = made x y is p
-mapped (Ok x) (Err fault) Made P Q P' Q' is p made told = absurd is
-mapped (Err fault) result Made P Q P' Q' is q made told = subst (λ r. MatchResult r P' Q') (sym is) (told fault q)
+mapped (Ok x) (Ok y) Made P Q P' Q' is p made failed = made x y is p
+mapped (Ok x) (Err fault) Made P Q P' Q' is p made failed = absurd is
+mapped (Err fault) result Made P Q P' Q' is q made failed = subst (λ r. MatchResult r P' Q') (sym is) (failed fault q)
 
 -- a fact about the value of a result
 pub mapped-on : {X Y E : Type 0} (found : Result X E) (result : Result Y E) (Made : X → Y → Type 0) (P : Type 0)

@@ -115,7 +115,7 @@ from-dens P rows all = All-from_recursion (λ row. P row.den) rows (go rows all)
     go (row ∷ some) h = (h.0, go some h.1)
 
 pub kept : (amount den greatest most bound : ℕ) → amount ≤ den * greatest → greatest ≤ most → den * most ≤ bound → amount ≤ bound
-kept amount den greatest most bound h below room = omega (arith, h, room, mul-le-mul_left den below)
+kept amount den greatest most bound h below products = omega (arith, h, products, mul-le-mul_left den below)
 
 -- all rows are as long as the first
 pub alike-own : (rows : List Row) (n : ℕ) → All (λ row. length row.numbers ≡ n) rows → All (λ row. length row.numbers ≡ length (row_at rows 0).numbers) rows

@@ -23,7 +23,7 @@ fn push_rows<P: Primvar<L>, L: Ledger>(
     requires can { CanEvaluate table.now (map P.numbers controls.now) }
     requires like { P.numbers like.now ≡ get_or (map P.numbers controls.now) 0 [] }
     requires empty { values.old.items ≡ [] }
-    requires room { length table.now.rows ≤ vec_capacity values.old }
+    requires fits { length table.now.rows ≤ vec_capacity values.old }
     ensures values { rows_of P.numbers values.new.items ≡ evaluated table.now (map P.numbers controls.now) }
     ensures steps { steps.new ≡ steps.old + entries_of table.now.rows }
 {

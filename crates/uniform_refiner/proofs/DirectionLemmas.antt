@@ -42,9 +42,9 @@ side-begins s (t ∷ sides) h = go (same_edge s t) refl (side-begins s sides)
     go false e behind = let later : begins s sides ≡ true = rw e at h in let rest = behind later in grind (arith, nat_tests)
 
 -- a face that has the edge in any direction comes after one that has it in its own, or is that one
-first-way : (polygons : List Polygon) (s : ℕ × ℕ) (g : ℕ) → begins s (all_sides polygons) ≡ true → has_edge s (polygon_at polygons g) ≡ true → (f : ℕ) × (f ≤ g) × (has_side s (polygon_at polygons f) ≡ true)
-first-way [] s g b h = absurd (cc)
-first-way (p ∷ polygons) s g b h = go (list_any (same_edge s) (sides_of p)) refl g h (λ later k has. first-way polygons s k later has)
+first-direction : (polygons : List Polygon) (s : ℕ × ℕ) (g : ℕ) → begins s (all_sides polygons) ≡ true → has_edge s (polygon_at polygons g) ≡ true → (f : ℕ) × (f ≤ g) × (has_side s (polygon_at polygons f) ≡ true)
+first-direction [] s g b h = absurd (cc)
+first-direction (p ∷ polygons) s g b h = go (list_any (same_edge s) (sides_of p)) refl g h (λ later k has. first-direction polygons s k later has)
   where
     parts : begins s (all_sides (p ∷ polygons)) ≡ (if list_any (same_edge s) (sides_of p) then begins s (sides_of p) else begins s (all_sides polygons))
     parts = begins-append s (sides_of p) (all_sides polygons)
@@ -57,8 +57,8 @@ first-way (p ∷ polygons) s g b h = go (list_any (same_edge s) (sides_of p)) re
         let found = behind later k h in
         (suc found.0, omega (arith, found.1), found.2)
 
-pub edge-way : (polygons : List Polygon) (e g : ℕ) → e < length (edges_of polygons) → has_edge (edge_at polygons e) (polygon_at polygons g) ≡ true → (f : ℕ) × (f ≤ g) × (has_side (edge_at polygons e) (polygon_at polygons f) ≡ true)
-edge-way polygons e g inside h = first-way polygons (edge_at polygons e) g (begins-named (all_sides polygons) e inside) h
+pub edge-direction : (polygons : List Polygon) (e g : ℕ) → e < length (edges_of polygons) → has_edge (edge_at polygons e) (polygon_at polygons g) ≡ true → (f : ℕ) × (f ≤ g) × (has_side (edge_at polygons e) (polygon_at polygons f) ≡ true)
+edge-direction polygons e g inside h = first-direction polygons (edge_at polygons e) g (begins-named (all_sides polygons) e inside) h
 
 -- a list that ascends and has these numbers is the list of them
 pub one-listed : (xs : List ℕ) (a : ℕ) → ((k : ℕ) → suc k < length xs → get_or xs k 0 < get_or xs (suc k) 0) → ((n : ℕ) → list_any (nat_eq n) xs ≡ nat_eq n a) → xs ≡ a ∷ []

@@ -73,8 +73,8 @@ module _ (t : Topology) (is : IsTopology t) (n : Slotted) (are : AreChildEdges t
     (omega (arith, inside, are.count_is), ap (is_among n.slots) (sym half-slots.1) ∙ half-among t is n are (edge_at t.level.polygons e).1 e inside second-has),
   )
 
-  pub edge-ways : p ≡ get_or n.faces (number_at n.slots (2 * e)) (0, 0) → q ≡ get_or n.faces (number_at n.slots (2 * e + 1)) (0, 0) → IsOpen ⊎ IsClosed
-  edge-ways start end =
+  pub edge-directions : p ≡ get_or n.faces (number_at n.slots (2 * e)) (0, 0) → q ≡ get_or n.faces (number_at n.slots (2 * e + 1)) (0, 0) → IsOpen ⊎ IsClosed
+  edge-directions start end =
       let found = any-place (same_side (edge_at t.level.polygons e)) t.level.polygons (listed-as-side t.level.polygons e (0, 0) inside) in
       let first = ap faces_of_pair start ∙ ap (λ k. faces_of_pair (get_or n.faces (number_at n.slots k) (0, 0))) (sym half-slots.0) ∙ half-faces t is n are e inside (edge_at t.level.polygons e).0 first-has in
       let second = ap faces_of_pair end ∙ ap (λ k. faces_of_pair (get_or n.faces (number_at n.slots k) (0, 0))) (sym half-slots.1) ∙ half-faces t is n are e inside (edge_at t.level.polygons e).1 second-has in
@@ -148,14 +148,14 @@ module _ (t : Topology) (is : IsTopology t) (n : Slotted) (are : AreChildEdges t
   low a h = omega (arith, among-number n.slots a h, are.listed)
 
   pub boundary-inside : IsOpen ⊎ IsClosed → (edges : List ℕ) → edges ≡ number_at n.slots (2 * e) ∷ number_at n.slots (2 * length (edges_of t.level.polygons) + p.0) ∷ number_at n.slots (2 * e + 1) ∷ [] → All (λ i. i < length n.ends) edges
-  boundary-inside ways edges d =
+  boundary-inside directions edges d =
       let P : ℕ → Type 0 = λ i. i < length n.ends in
       let h = number_at n.slots (2 * e) in
       let i = number_at n.slots (2 * length (edges_of t.level.polygons) + p.0) in
       let j = number_at n.slots (2 * e + 1) in
-      subst (All P) (sym d) (All-cons P h (i ∷ j ∷ []) (low (2 * e) halves-there.0.1) (All-cons P i (j ∷ []) (low (2 * length (edges_of t.level.polygons) + p.0) (start-inner ways).1) (All-cons P j [] (low (2 * e + 1) halves-there.1.1) (All-nil P))))
+      subst (All P) (sym d) (All-cons P h (i ∷ j ∷ []) (low (2 * e) halves-there.0.1) (All-cons P i (j ∷ []) (low (2 * length (edges_of t.level.polygons) + p.0) (start-inner directions).1) (All-cons P j [] (low (2 * e + 1) halves-there.1.1) (All-nil P))))
 
   pub inside-inside : IsOpen ⊎ IsClosed → q.1 ≢ q.0 → (edges : List ℕ) → edges ≡ number_at n.slots (2 * e) ∷ number_at n.slots (2 * length (edges_of t.level.polygons) + p.0) ∷ number_at n.slots (2 * e + 1) ∷ number_at n.slots (2 * length (edges_of t.level.polygons) + q.1) ∷ [] → All (λ i. i < length n.ends) edges
-  inside-inside ways apart edges d =
+  inside-inside directions apart edges d =
       subst (All (λ i. i < length n.ends)) (sym d) (all-four (λ i. i < length n.ends) (number_at n.slots (2 * e)) (number_at n.slots (2 * length (edges_of t.level.polygons) + p.0)) (number_at n.slots (2 * e + 1)) (number_at n.slots (2 * length (edges_of t.level.polygons) + q.1))
-      (low (2 * e) halves-there.0.1) (low (2 * length (edges_of t.level.polygons) + p.0) (start-inner ways).1) (low (2 * e + 1) halves-there.1.1) (low (2 * length (edges_of t.level.polygons) + q.1) (back-inner ways apart).1))
+      (low (2 * e) halves-there.0.1) (low (2 * length (edges_of t.level.polygons) + p.0) (start-inner directions).1) (low (2 * e + 1) halves-there.1.1) (low (2 * length (edges_of t.level.polygons) + q.1) (back-inner directions apart).1))

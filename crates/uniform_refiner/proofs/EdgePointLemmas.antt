@@ -160,7 +160,7 @@ module _ (t : Topology) (is : IsTopology t) where
   -- the child faces at the point of an edge are at its ends, in a face that has it in one direction or the other
   pub record IsAtEdge (a b k : ℕ) : Type 0 where
     pub face : ℕ
-    pub way : ((has_side (a, b) (polygon_at polygons face) ≡ true) × ((k ≡ kid face a) ⊎ (k ≡ kid face b))) ⊎ ((has_side (b, a) (polygon_at polygons face) ≡ true) × ((k ≡ kid face a) ⊎ (k ≡ kid face b)))
+    pub direction : ((has_side (a, b) (polygon_at polygons face) ≡ true) × ((k ≡ kid face a) ⊎ (k ≡ kid face b))) ⊎ ((has_side (b, a) (polygon_at polygons face) ≡ true) × ((k ≡ kid face a) ⊎ (k ≡ kid face b)))
 
   pub edge-kid : (e k : ℕ) → e < length (edges_of polygons) → has_corner (E e) (polygon_at quads k) ≡ true → IsAtEdge (edge_at polygons e).0 (edge_at polygons e).1 k
   edge-kid e k inside has =
@@ -171,7 +171,7 @@ module _ (t : Topology) (is : IsTopology t) where
       let low = corner-low t is f c (face-below polygons f c h) h in
       let one : nat_eq (E e) (corner_at polygons f c) ≡ false = ne_eqb _ _ (λ same. absurd (omega (arith, same, low))) in
       let three : nat_eq (E e) (points + f) ≡ false = ne_eqb _ _ (λ same. absurd (omega (arith, same, face-below polygons f c h))) in
-      way f c h found.0.number (either _ _ _ _ one three found.1)
+      by-direction f c h found.0.number (either _ _ _ _ one three found.1)
     where
       edge : ℕ × ℕ
       edge = edge_at polygons e
@@ -189,8 +189,8 @@ module _ (t : Topology) (is : IsTopology t) where
           number ∙ ap (λ i. first_child polygons f + i) same
 
       -- the side from a corner is the edge, in one direction or the other
-      side-ways : (s : ℕ × ℕ) → same_edge s edge ≡ true → ((s.0 ≡ edge.0) × (s.1 ≡ edge.1)) ⊎ ((s.0 ≡ edge.1) × (s.1 ≡ edge.0))
-      side-ways s same = go (nat_eq s.0 edge.0) refl (nat_eq s.1 edge.1) refl
+      side-directions : (s : ℕ × ℕ) → same_edge s edge ≡ true → ((s.0 ≡ edge.0) × (s.1 ≡ edge.1)) ⊎ ((s.0 ≡ edge.1) × (s.1 ≡ edge.0))
+      side-directions s same = go (nat_eq s.0 edge.0) refl (nat_eq s.1 edge.1) refl
         where
           go : (p : Bool) → nat_eq s.0 edge.0 ≡ p → (q : Bool) → nat_eq s.1 edge.1 ≡ q → ((s.0 ≡ edge.0) × (s.1 ≡ edge.1)) ⊎ ((s.0 ≡ edge.1) × (s.1 ≡ edge.0))
           go true x true y = inl (eqb-true _ _ x, eqb-true _ _ y)
@@ -209,21 +209,21 @@ module _ (t : Topology) (is : IsTopology t) where
       sided : (f d : ℕ) → d < length (polygon_at polygons f) → edge_from polygons f d ≡ e → same_edge (side_at (polygon_at polygons f) d) edge ≡ true
       sided f d h number = ap (λ i. same_edge (side_at (polygon_at polygons f) d) (edge_at polygons i)) (sym number) ∙ edge-joins polygons f d h
 
-      way : (f c : ℕ) → c < length (polygon_at polygons f) → k ≡ first_child polygons f + c → (nat_eq (E e) (E (edge_from polygons f c)) ≡ true) ⊎ (nat_eq (E e) (E (edge_from polygons f (before_in polygons f c))) ≡ true) → IsAtEdge edge.0 edge.1 k
-      way f c h number (inl after) =
+      by-direction : (f c : ℕ) → c < length (polygon_at polygons f) → k ≡ first_child polygons f + c → (nat_eq (E e) (E (edge_from polygons f c)) ≡ true) ⊎ (nat_eq (E e) (E (edge_from polygons f (before_in polygons f c))) ≡ true) → IsAtEdge edge.0 edge.1 k
+      by-direction f c h number (inl after) =
           let edge_is : edge_from polygons f c ≡ e = omega (arith, eqb-true _ _ after) in
-          from f c (corner_at polygons f c) (get_or (polygon_at polygons f) (corner_after (length (polygon_at polygons f)) c) 0) h refl number (own-side f c h) (side-ways (side_at (polygon_at polygons f) c) (sided f c h edge_is))
+          from f c (corner_at polygons f c) (get_or (polygon_at polygons f) (corner_after (length (polygon_at polygons f)) c) 0) h refl number (own-side f c h) (side-directions (side_at (polygon_at polygons f) c) (sided f c h edge_is))
         where
           from : (f c v w : ℕ) → c < length (polygon_at polygons f) → corner_at polygons f c ≡ v → k ≡ first_child polygons f + c → has_side (v, w) (polygon_at polygons f) ≡ true → ((v ≡ edge.0) × (w ≡ edge.1)) ⊎ ((v ≡ edge.1) × (w ≡ edge.0)) → IsAtEdge edge.0 edge.1 k
-          from f c v w h at number side (inl ends) = record { face = f; way = inl (ap (λ (i : ℕ). has_side (i, edge.1) (polygon_at polygons f)) (sym ends.0) ∙ ap (λ (i : ℕ). has_side (v, i) (polygon_at polygons f)) (sym ends.1) ∙ side, inl (same-corner f c edge.0 h (at ∙ ends.0) number)) }
-          from f c v w h at number side (inr ends) = record { face = f; way = inr (ap (λ (i : ℕ). has_side (i, edge.0) (polygon_at polygons f)) (sym ends.0) ∙ ap (λ (i : ℕ). has_side (v, i) (polygon_at polygons f)) (sym ends.1) ∙ side, inr (same-corner f c edge.1 h (at ∙ ends.0) number)) }
-      way f c h number (inr before) =
+          from f c v w h at number side (inl ends) = record { face = f; direction = inl (ap (λ (i : ℕ). has_side (i, edge.1) (polygon_at polygons f)) (sym ends.0) ∙ ap (λ (i : ℕ). has_side (v, i) (polygon_at polygons f)) (sym ends.1) ∙ side, inl (same-corner f c edge.0 h (at ∙ ends.0) number)) }
+          from f c v w h at number side (inr ends) = record { face = f; direction = inr (ap (λ (i : ℕ). has_side (i, edge.0) (polygon_at polygons f)) (sym ends.0) ∙ ap (λ (i : ℕ). has_side (v, i) (polygon_at polygons f)) (sym ends.1) ∙ side, inr (same-corner f c edge.1 h (at ∙ ends.0) number)) }
+      by-direction f c h number (inr before) =
           let d = before_in polygons f c in
           let below = before-within polygons f c h in
           let edge_is : edge_from polygons f d ≡ e = omega (arith, eqb-true _ _ before) in
           let round : get_or (polygon_at polygons f) (corner_after (length (polygon_at polygons f)) d) 0 ≡ corner_at polygons f c = ap (corner_at polygons f) (before-after (length (polygon_at polygons f)) c h).1 in
-          into f c (corner_at polygons f d) (get_or (polygon_at polygons f) (corner_after (length (polygon_at polygons f)) d) 0) h (sym round) number (own-side f d below) (side-ways (side_at (polygon_at polygons f) d) (sided f d below edge_is))
+          into f c (corner_at polygons f d) (get_or (polygon_at polygons f) (corner_after (length (polygon_at polygons f)) d) 0) h (sym round) number (own-side f d below) (side-directions (side_at (polygon_at polygons f) d) (sided f d below edge_is))
         where
           into : (f c u v : ℕ) → c < length (polygon_at polygons f) → corner_at polygons f c ≡ v → k ≡ first_child polygons f + c → has_side (u, v) (polygon_at polygons f) ≡ true → ((u ≡ edge.0) × (v ≡ edge.1)) ⊎ ((u ≡ edge.1) × (v ≡ edge.0)) → IsAtEdge edge.0 edge.1 k
-          into f c u v h at number side (inl ends) = record { face = f; way = inl (ap (λ (i : ℕ). has_side (i, edge.1) (polygon_at polygons f)) (sym ends.0) ∙ ap (λ (i : ℕ). has_side (u, i) (polygon_at polygons f)) (sym ends.1) ∙ side, inr (same-corner f c edge.1 h (at ∙ ends.1) number)) }
-          into f c u v h at number side (inr ends) = record { face = f; way = inr (ap (λ (i : ℕ). has_side (i, edge.0) (polygon_at polygons f)) (sym ends.0) ∙ ap (λ (i : ℕ). has_side (u, i) (polygon_at polygons f)) (sym ends.1) ∙ side, inl (same-corner f c edge.0 h (at ∙ ends.1) number)) }
+          into f c u v h at number side (inl ends) = record { face = f; direction = inl (ap (λ (i : ℕ). has_side (i, edge.1) (polygon_at polygons f)) (sym ends.0) ∙ ap (λ (i : ℕ). has_side (u, i) (polygon_at polygons f)) (sym ends.1) ∙ side, inr (same-corner f c edge.1 h (at ∙ ends.1) number)) }
+          into f c u v h at number side (inr ends) = record { face = f; direction = inr (ap (λ (i : ℕ). has_side (i, edge.0) (polygon_at polygons f)) (sym ends.0) ∙ ap (λ (i : ℕ). has_side (u, i) (polygon_at polygons f)) (sym ends.1) ∙ side, inl (same-corner f c edge.0 h (at ∙ ends.1) number)) }

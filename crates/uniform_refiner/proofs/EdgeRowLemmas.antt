@@ -28,7 +28,7 @@ use Rattle.uniform_refiner.proofs.WholeEdgeLemmas.{slot-number, ends-all}
 use Rattle.uniform_refiner.proofs.PutEdgeLemmas.{faces-are}
 use Rattle.uniform_refiner.proofs.PointLemmas.{corner-there, kids, kids-simple, kids-distinct, vertex-corner, row-of}
 use Rattle.uniform_refiner.proofs.VertexLemmas.{half-among}
-use Rattle.uniform_refiner.proofs.DirectionLemmas.{edge-way, one-listed, two-listed}
+use Rattle.uniform_refiner.proofs.DirectionLemmas.{edge-direction, one-listed, two-listed}
 use Rattle.uniform_refiner.proofs.EdgePointLemmas.{kid, at-start, at-end, a-low, b-low, start-corner, end-corner, start-quad, end-quad, start-in, end-out, inside-leads, start-before, end-before, end-after, IsAtEdge, edge-kid}
 
 -- a polygon that has an edge has its ends
@@ -138,15 +138,15 @@ module _ (t : Topology) (is : IsTopology t) (n : Slotted) (are : AreChildEdges t
         omega (arith, wrong)
 
     -- the child at one end does not have the other
-    end-alone : has_corner a (polygon_at quads B) ≡ true → ⊥
-    end-alone has =
+    end-absent : has_corner a (polygon_at quads B) ≡ true → ⊥
+    end-absent has =
         let at = at-end t is f a b e inside side number in
         let low = a-low t is f a b e inside side number in
         let corner = vertex-corner t is a f (corner_of polygons b f) low (ap (has_corner a) (sym (end-quad t is f a b e inside side number)) ∙ has) in
         ends-apart (sym corner ∙ at.1)
 
-    start-alone : has_corner b (polygon_at quads A) ≡ true → ⊥
-    start-alone has =
+    start-absent : has_corner b (polygon_at quads A) ≡ true → ⊥
+    start-absent has =
         let at = at-start t is f a b e inside side number in
         let low = b-low t is f a b e inside side number in
         let corner = vertex-corner t is b f (corner_of polygons a f) low (ap (has_corner b) (sym (start-quad t is f a b e inside side number)) ∙ has) in
@@ -170,29 +170,29 @@ module _ (t : Topology) (is : IsTopology t) (n : Slotted) (are : AreChildEdges t
       open-cases k has = go (edge-kid t is e k inside has)
         where
           go : IsAtEdge t is a b k → (k ≡ A) ⊎ (k ≡ B)
-          go at = way at.face at.way
+          go at = by-direction at.face at.direction
             where
-              way : (g : ℕ) → ((has_side (a, b) (polygon_at polygons g) ≡ true) × ((k ≡ kid t is g a) ⊎ (k ≡ kid t is g b))) ⊎ ((has_side (b, a) (polygon_at polygons g) ≡ true) × ((k ≡ kid t is g a) ⊎ (k ≡ kid t is g b))) → (k ≡ A) ⊎ (k ≡ B)
-              way g (inl h) = moved g (owner (a, b) g f h.0 side) h.1
+              by-direction : (g : ℕ) → ((has_side (a, b) (polygon_at polygons g) ≡ true) × ((k ≡ kid t is g a) ⊎ (k ≡ kid t is g b))) ⊎ ((has_side (b, a) (polygon_at polygons g) ≡ true) × ((k ≡ kid t is g a) ⊎ (k ≡ kid t is g b))) → (k ≡ A) ⊎ (k ≡ B)
+              by-direction g (inl h) = moved g (owner (a, b) g f h.0 side) h.1
                 where
                   moved : (g : ℕ) → g ≡ f → (k ≡ kid t is g a) ⊎ (k ≡ kid t is g b) → (k ≡ A) ⊎ (k ≡ B)
                   moved g same (inl at) = inl (at ∙ ap (λ i. kid t is i a) same)
                   moved g same (inr at) = inr (at ∙ ap (λ i. kid t is i b) same)
-              way g (inr h) = let some = any-here (same_side (b, a)) polygons g h.0 in absurd (cc)
+              by-direction g (inr h) = let some = any-here (same_side (b, a)) polygons g h.0 in absurd (cc)
 
       pub open-start : faces_of_edge quads (a, x) ≡ A ∷ []
       open-start = one-listed (faces_of_edge quads (a, x)) A (places-ascend (has_edge (a, x)) [] 0 quads) (λ k. members (a, x) k ∙ same-tests _ _ (λ has. eq-eqb k A (only k has (open-cases k (edge-corners (polygon_at quads k) (a, x) has).1))) (λ h. ap (λ i. has_edge (a, x) (polygon_at quads i)) (eqb-true k A h) ∙ start-edge))
         where
           only : (k : ℕ) → has_edge (a, x) (polygon_at quads k) ≡ true → (k ≡ A) ⊎ (k ≡ B) → k ≡ A
           only k has (inl at) = at
-          only k has (inr at) = absurd (end-alone (ap (λ i. has_corner a (polygon_at quads i)) (sym at) ∙ (edge-corners (polygon_at quads k) (a, x) has).0))
+          only k has (inr at) = absurd (end-absent (ap (λ i. has_corner a (polygon_at quads i)) (sym at) ∙ (edge-corners (polygon_at quads k) (a, x) has).0))
 
       pub open-end : faces_of_edge quads (b, x) ≡ B ∷ []
       open-end = one-listed (faces_of_edge quads (b, x)) B (places-ascend (has_edge (b, x)) [] 0 quads) (λ k. members (b, x) k ∙ same-tests _ _ (λ has. eq-eqb k B (only k has (open-cases k (edge-corners (polygon_at quads k) (b, x) has).1))) (λ h. ap (λ i. has_edge (b, x) (polygon_at quads i)) (eqb-true k B h) ∙ end-edge))
         where
           only : (k : ℕ) → has_edge (b, x) (polygon_at quads k) ≡ true → (k ≡ A) ⊎ (k ≡ B) → k ≡ B
           only k has (inr at) = at
-          only k has (inl at) = absurd (start-alone (ap (λ i. has_corner b (polygon_at quads i)) (sym at) ∙ (edge-corners (polygon_at quads k) (b, x) has).0))
+          only k has (inl at) = absurd (start-absent (ap (λ i. has_corner b (polygon_at quads i)) (sym at) ∙ (edge-corners (polygon_at quads k) (b, x) has).0))
 
       open-from : IsFanFrom quads x A (A ∷ (B ∷ []))
       open-from = record {
@@ -212,22 +212,22 @@ module _ (t : Topology) (is : IsTopology t) (n : Slotted) (are : AreChildEdges t
           among k (inr at) = let yes = eq-eqb k B at in grind (arith, nat_tests)
 
       -- none leads to the first child: it would have both directions of a half, or an end that it has not
-      open-alone : (k : ℕ) → IsSuccessor quads x k A → ⊥
-      open-alone k leads =
+      open-without-predecessor : (k : ℕ) → IsSuccessor quads x k A → ⊥
+      open-without-predecessor k leads =
           let corner : leads.corner ≡ a = leader-unique (polygon_at quads A) x leads.corner a (distinct-at quads A (kids-simple t is)) leads.leads_back (start-in t is f a b e inside side number) in
           let out : has_side (x, a) (polygon_at quads k) ≡ true = ap (λ (v : ℕ). has_side (x, v) (polygon_at quads k)) (sym corner) ∙ leads.follows in
-          way (open-cases k (side-start (polygon_at quads k) (x, a) out)) out
+          by-direction (open-cases k (side-start (polygon_at quads k) (x, a) out)) out
         where
-          way : (k ≡ A) ⊎ (k ≡ B) → has_side (x, a) (polygon_at quads k) ≡ true → ⊥
-          way (inl at) out = no-side-back (polygon_at quads A) a x (all-at is_simple quads A [] (corner-place quads A x start-has) (kids-simple t is)) (start-in t is f a b e inside side number) (ap (λ i. has_side (x, a) (polygon_at quads i)) (sym at) ∙ out)
-          way (inr at) out = end-alone (ap (λ i. has_corner a (polygon_at quads i)) (sym at) ∙ side-end (polygon_at quads k) (x, a) out)
+          by-direction : (k ≡ A) ⊎ (k ≡ B) → has_side (x, a) (polygon_at quads k) ≡ true → ⊥
+          by-direction (inl at) out = no-side-back (polygon_at quads A) a x (all-at is_simple quads A [] (corner-place quads A x start-has) (kids-simple t is)) (start-in t is f a b e inside side number) (ap (λ i. has_side (x, a) (polygon_at quads i)) (sym at) ∙ out)
+          by-direction (inr at) out = end-absent (ap (λ i. has_corner a (polygon_at quads i)) (sym at) ∙ side-end (polygon_at quads k) (x, a) out)
 
       pub open-row : (ends : List ℕ) → ends ≡ map (end_in n.ends x) (number_at n.slots (half_slot polygons a e) ∷ number_at n.slots (inner_slot polygons f (corner_of polygons a f)) ∷ number_at n.slots (half_slot polygons b e) ∷ [])
           → IsRow quads x true (A ∷ (B ∷ [])) (1 ∷ (3 ∷ [])) (number_at n.slots (half_slot polygons a e) ∷ number_at n.slots (inner_slot polygons f (corner_of polygons a f)) ∷ number_at n.slots (half_slot polygons b e) ∷ []) ends
       open-row ends o =
           let edges = number_at n.slots (half_slot polygons a e) ∷ number_at n.slots (inner_slot polygons f (corner_of polygons a f)) ∷ number_at n.slots (half_slot polygons b e) ∷ [] in
           row-of quads (kids-simple t is) (kids-distinct t is) x true (A ∷ (B ∷ [])) (1 ∷ (3 ∷ [])) edges ends
-          (record { start = A; is = open-from; no_predecessor = λ yes. open-alone; led = λ no. absurd (cc) })
+          (record { start = A; is = open-from; alone = λ yes. open-without-predecessor; led = λ no. absurd (cc) })
           (two-same (sym (start-corner t is f a b e inside side number)) (sym (end-corner t is f a b e inside side number)))
           (three-same (sym (start-before t is f a b e inside side number n are)) (sym (end-before t is f a b e inside side number n are)) (sym (end-after t is f a b e inside side number n are)))
           (o ∙ ap (λ es. map (end_in es x) edges) (ends-all t is n are))
@@ -254,7 +254,7 @@ module _ (t : Topology) (is : IsTopology t) (n : Slotted) (are : AreChildEdges t
       -- the face that has it in its direction comes first
       faces-order : f < g
       faces-order =
-          let found = edge-way polygons e g inside (back-edge (polygon_at polygons g) a b back) in
+          let found = edge-direction polygons e g inside (back-edge (polygon_at polygons g) a b back) in
           let same : found.0 ≡ f = owner (a, b) found.0 f found.2 side in
           omega (arith, found.1, same, faces-apart)
 
@@ -274,7 +274,7 @@ module _ (t : Topology) (is : IsTopology t) (n : Slotted) (are : AreChildEdges t
       closed-cases k has = go (edge-kid t is e k inside has)
         where
           go : IsAtEdge t is a b k → ((k ≡ A) ⊎ (k ≡ B)) ⊎ ((k ≡ C) ⊎ (k ≡ D))
-          go at = way at.face at.way
+          go at = by-direction at.face at.direction
             where
               moved : (h i : ℕ) → h ≡ i → (k ≡ kid t is h a) ⊎ (k ≡ kid t is h b) → (k ≡ kid t is i a) ⊎ (k ≡ kid t is i b)
               moved h i same (inl at) = inl (at ∙ ap (λ j. kid t is j a) same)
@@ -284,20 +284,20 @@ module _ (t : Topology) (is : IsTopology t) (n : Slotted) (are : AreChildEdges t
               turned (inl at) = inr at
               turned (inr at) = inl at
 
-              way : (h : ℕ) → ((has_side (a, b) (polygon_at polygons h) ≡ true) × ((k ≡ kid t is h a) ⊎ (k ≡ kid t is h b))) ⊎ ((has_side (b, a) (polygon_at polygons h) ≡ true) × ((k ≡ kid t is h a) ⊎ (k ≡ kid t is h b))) → ((k ≡ A) ⊎ (k ≡ B)) ⊎ ((k ≡ C) ⊎ (k ≡ D))
-              way h (inl has) = inl (moved h f (owner (a, b) h f has.0 side) has.1)
-              way h (inr has) = inr (turned (moved h g (owner (b, a) h g has.0 back) has.1))
+              by-direction : (h : ℕ) → ((has_side (a, b) (polygon_at polygons h) ≡ true) × ((k ≡ kid t is h a) ⊎ (k ≡ kid t is h b))) ⊎ ((has_side (b, a) (polygon_at polygons h) ≡ true) × ((k ≡ kid t is h a) ⊎ (k ≡ kid t is h b))) → ((k ≡ A) ⊎ (k ≡ B)) ⊎ ((k ≡ C) ⊎ (k ≡ D))
+              by-direction h (inl has) = inl (moved h f (owner (a, b) h f has.0 side) has.1)
+              by-direction h (inr has) = inr (turned (moved h g (owner (b, a) h g has.0 back) has.1))
 
       -- the children of the second face have one end each too
-      third-alone : has_corner a (polygon_at quads C) ≡ true → ⊥
-      third-alone has =
+      third-absent : has_corner a (polygon_at quads C) ≡ true → ⊥
+      third-absent has =
           let at = at-start t is g b a e inside back back-number in
           let low = b-low t is g b a e inside back back-number in
           let corner = vertex-corner t is a g (corner_of polygons b g) low (ap (has_corner a) (sym (start-quad t is g b a e inside back back-number)) ∙ has) in
           ends-apart (sym corner ∙ at.1)
 
-      last-alone : has_corner b (polygon_at quads D) ≡ true → ⊥
-      last-alone has =
+      last-absent : has_corner b (polygon_at quads D) ≡ true → ⊥
+      last-absent has =
           let at = at-end t is g b a e inside back back-number in
           let low = a-low t is g b a e inside back back-number in
           let corner = vertex-corner t is b g (corner_of polygons a g) low (ap (has_corner b) (sym (end-quad t is g b a e inside back back-number)) ∙ has) in
@@ -308,8 +308,8 @@ module _ (t : Topology) (is : IsTopology t) (n : Slotted) (are : AreChildEdges t
         where
           only : (k : ℕ) → has_corner a (polygon_at quads k) ≡ true → ((k ≡ A) ⊎ (k ≡ B)) ⊎ ((k ≡ C) ⊎ (k ≡ D)) → (nat_eq k A || nat_eq k D) ≡ true
           only k has (inl (inl at)) = let yes = eq-eqb k A at in rw yes refl
-          only k has (inl (inr at)) = absurd (end-alone (ap (λ i. has_corner a (polygon_at quads i)) (sym at) ∙ has))
-          only k has (inr (inl at)) = absurd (third-alone (ap (λ i. has_corner a (polygon_at quads i)) (sym at) ∙ has))
+          only k has (inl (inr at)) = absurd (end-absent (ap (λ i. has_corner a (polygon_at quads i)) (sym at) ∙ has))
+          only k has (inr (inl at)) = absurd (third-absent (ap (λ i. has_corner a (polygon_at quads i)) (sym at) ∙ has))
           only k has (inr (inr at)) = let yes = eq-eqb k D at in grind (arith, nat_tests)
 
           there : (k : ℕ) (q : Bool) → nat_eq k A ≡ q → (nat_eq k A || nat_eq k D) ≡ true → has_edge (a, x) (polygon_at quads k) ≡ true
@@ -321,8 +321,8 @@ module _ (t : Topology) (is : IsTopology t) (n : Slotted) (are : AreChildEdges t
         where
           only : (k : ℕ) → has_corner b (polygon_at quads k) ≡ true → ((k ≡ A) ⊎ (k ≡ B)) ⊎ ((k ≡ C) ⊎ (k ≡ D)) → (nat_eq k B || nat_eq k C) ≡ true
           only k has (inl (inr at)) = let yes = eq-eqb k B at in rw yes refl
-          only k has (inl (inl at)) = absurd (start-alone (ap (λ i. has_corner b (polygon_at quads i)) (sym at) ∙ has))
-          only k has (inr (inr at)) = absurd (last-alone (ap (λ i. has_corner b (polygon_at quads i)) (sym at) ∙ has))
+          only k has (inl (inl at)) = absurd (start-absent (ap (λ i. has_corner b (polygon_at quads i)) (sym at) ∙ has))
+          only k has (inr (inr at)) = absurd (last-absent (ap (λ i. has_corner b (polygon_at quads i)) (sym at) ∙ has))
           only k has (inr (inl at)) = let yes = eq-eqb k C at in grind (arith, nat_tests)
 
           there : (k : ℕ) (q : Bool) → nat_eq k B ≡ q → (nat_eq k B || nat_eq k C) ≡ true → has_edge (b, x) (polygon_at quads k) ≡ true

@@ -9,7 +9,7 @@ pub mod FacePointLemmas
 pub mod DirectionLemmas
 pub mod EdgePointLemmas
 pub mod EdgeRowLemmas
-pub mod EdgeWayLemmas
+pub mod EdgeHalfLemmas
 pub mod PutPointLemmas
 pub mod UniformLemmas
 pub mod WholeLemmas

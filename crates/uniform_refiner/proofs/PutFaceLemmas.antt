@@ -42,8 +42,8 @@ module _ (t : Topology) (is : IsTopology t) where
   quads = child_polygons points polygons
 
   -- there is memory for one more child face
-  pub children-room : (f c : ℕ) → c < length (polygon_at polygons f) → (length (take (first_child polygons f + c) quads) < sum_by length polygons) × (sum_by length (take (first_child polygons f + c) quads) + 4 ≤ 4 * sum_by length polygons)
-  children-room f c h =
+  pub children-fit : (f c : ℕ) → c < length (polygon_at polygons f) → (length (take (first_child polygons f + c) quads) < sum_by length polygons) × (sum_by length (take (first_child polygons f + c) quads) + 4 ≤ 4 * sum_by length polygons)
+  children-fit f c h =
       let k = first_child polygons f + c in
       let below = first-below polygons f c h in (
         omega (arith, below, length-take-le k quads (omega (arith, below, child_polygons-length points polygons))),

@@ -35,8 +35,8 @@ lists-count v place (list ∷ lists) h =
     go false e behind once = rw e (omega (arith, behind, count-none (nat_eq v) list e, count-append (nat_eq v) list (joined lists)))
 
 -- the lists at a point take the memory of its places
-row-room : (v sum : ℕ) (lists : List Polygon) (row : List ℕ) → list_all is_distinct lists ≡ true → sum ≡ count_by (λ x. nat_lt x v) (joined lists) → length row ≡ length (lists_with lists v) → (sum + length row ≡ count_by (λ x. nat_lt x (v + 1)) (joined lists)) × (sum + length row ≤ sum_by length lists)
-row-room v sum lists row distinct e count =
+row-fits : (v sum : ℕ) (lists : List Polygon) (row : List ℕ) → list_all is_distinct lists ≡ true → sum ≡ count_by (λ x. nat_lt x v) (joined lists) → length row ≡ length (lists_with lists v) → (sum + length row ≡ count_by (λ x. nat_lt x (v + 1)) (joined lists)) × (sum + length row ≤ sum_by length lists)
+row-fits v sum lists row distinct e count =
     let own = lists-count v 0 lists distinct in
     let more = below-more (joined lists) v in
     (omega (arith, own, e, count, more), omega (arith, own, e, count, more, joined-length lists, count-le (λ x. nat_lt x (v + 1)) (joined lists)))
@@ -62,29 +62,29 @@ module _ (t : Topology) (is : IsTopology t) where
   quads = children_of t.level
 
   -- there is memory for the lists of one more point
-  pub point-room : (v : ℕ) (rows : Rows) (faces at edges ends : List ℕ) → ArePoints t.level v rows → IsRow quads v true faces at edges ends
+  pub point-fits : (v : ℕ) (rows : Rows) (faces at edges ends : List ℕ) → ArePoints t.level v rows → IsRow quads v true faces at edges ends
       → ((sum_by length rows.vertex_faces + length faces ≡ count_by (λ x. nat_lt x (v + 1)) (joined quads)) × (sum_by length rows.vertex_faces + length faces ≤ rows.counts.face_places))
       × ((sum_by length rows.vertex_edges + length edges ≡ count_by (λ x. nat_lt x (v + 1)) (joined (map pair_list (edges_of quads)))) × (sum_by length rows.vertex_edges + length edges ≤ rows.counts.edge_places))
-  point-room v rows faces at edges ends are row =
-      let one = row-room v (sum_by length rows.vertex_faces) quads faces (faces-distinct quads (kids-simple t is)) are.face_sum (length_permutation (faces_of_point quads v) faces row.faces_are) in
-      let two = row-room v (sum_by length rows.vertex_edges) (map pair_list (edges_of quads)) edges (pairs-distinct (edges_of quads) (ends-distinct quads (edges_of quads) (kids-simple t is) refl)) are.edge_sum (length_permutation (edge_numbers_at quads v) edges row.edges_are ∙ ap length (sym (edges-listed quads v))) in
-      ((one.0, omega (arith, one.1, are.face_room)), (two.0, omega (arith, two.1, are.edge_room, pairs-total (edges_of quads))))
+  point-fits v rows faces at edges ends are row =
+      let one = row-fits v (sum_by length rows.vertex_faces) quads faces (faces-distinct quads (kids-simple t is)) are.face_sum (length_permutation (faces_of_point quads v) faces row.faces_are) in
+      let two = row-fits v (sum_by length rows.vertex_edges) (map pair_list (edges_of quads)) edges (pairs-distinct (edges_of quads) (ends-distinct quads (edges_of quads) (kids-simple t is) refl)) are.edge_sum (length_permutation (edge_numbers_at quads v) edges row.edges_are ∙ ap length (sym (edges-listed quads v))) in
+      ((one.0, omega (arith, one.1, are.face_total)), (two.0, omega (arith, two.1, are.edge_total, pairs-total (edges_of quads))))
 
   -- a point more
   pub points-step : (v : ℕ) (rows next : Rows) (faces at edges ends : List ℕ) (sharp : Sharpness) → ArePoints t.level v rows → v < child_points t.level.point_count t.level.polygons → length (child_vertex_sharpness t.level) ≡ child_points t.level.point_count t.level.polygons
       → IsRow quads v true faces at edges ends → sharp ≡ get_or (child_vertex_sharpness t.level) v Smooth → next ≡ with_vertex faces at edges ends sharp true rows → ArePoints t.level (v + 1) next
   points-step v rows next faces at edges ends sharp are low long row s made =
-      let room = point-room v rows faces at edges ends are row in
+      let fits = point-fits v rows faces at edges ends are row in
       let mark : get_or (replicate (child_points t.level.point_count t.level.polygons) true) v false ≡ true = get_or-replicate (child_points t.level.point_count t.level.polygons) v true false low in
       subst (λ r. ArePoints t.level (v + 1) r) (sym made) (record {
         rows_are = rows-push quads (replicate (child_points t.level.point_count t.level.polygons) true) v rows.vertex_faces rows.vertex_faces_at rows.vertex_edges rows.vertex_edges_at are.rows_are (subst (λ b. IsRow quads v b faces at edges ends) (sym mark) row) refl refl refl refl;
         sharpness = ap (λ xs. xs ++ sharp ∷ []) are.sharpness ∙ ap (λ x. take v (child_vertex_sharpness t.level) ++ x ∷ []) s ∙ sym (take_more (child_vertex_sharpness t.level) v Smooth (omega (arith, low, long)));
         complete = ap (λ xs. xs ++ true ∷ []) are.complete ∙ sym (replicate-push v true);
-        face_sum = sum-push rows.vertex_faces (rows.vertex_faces ++ faces ∷ []) faces refl ∙ room.0.0;
-        edge_sum = sum-push rows.vertex_edges (rows.vertex_edges ++ edges ∷ []) edges refl ∙ room.1.0;
-        point_room = are.point_room;
-        face_room = are.face_room;
-        edge_room = are.edge_room;
+        face_sum = sum-push rows.vertex_faces (rows.vertex_faces ++ faces ∷ []) faces refl ∙ fits.0.0;
+        edge_sum = sum-push rows.vertex_edges (rows.vertex_edges ++ edges ∷ []) edges refl ∙ fits.1.0;
+        point_total = are.point_total;
+        face_total = are.face_total;
+        edge_total = are.edge_total;
       })
 
   -- before the first one
@@ -95,7 +95,7 @@ module _ (t : Topology) (is : IsTopology t) where
     complete = ap (λ (r : Rows). r.complete) none;
     face_sum = ap (λ (r : Rows). sum_by length r.vertex_faces) none ∙ sym (below-none (joined quads));
     edge_sum = ap (λ (r : Rows). sum_by length r.vertex_edges) none ∙ sym (below-none (joined (map pair_list (edges_of quads))));
-    point_room = points;
-    face_room = faces;
-    edge_room = edges;
+    point_total = points;
+    face_total = faces;
+    edge_total = edges;
   }

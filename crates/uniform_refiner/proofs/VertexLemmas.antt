@@ -153,8 +153,8 @@ module _ (t : Topology) (is : IsTopology t) (n : Slotted) (are : AreChildEdges t
         (subst (λ (k : ℕ). IsSuccessor quads v (kid (get_or faces (length faces - 1) 0)) k) (sym (kid-item 0 some)) (kid-leads (get_or faces (length faces - 1) 0) (get_or faces 0 0) (face-at (length faces - 1) last) (face-at 0 some) same))
 
     -- the vertex is at the boundary: none leads to the first
-    alone : length edges ≡ length faces + 1 → (k : ℕ) → IsSuccessor quads v k (get_or (map kid faces) 0 0) → ⊥
-    alone apart k leads =
+    first-without-predecessor : length edges ≡ length faces + 1 → (k : ℕ) → IsSuccessor quads v k (get_or (map kid faces) 0 0) → ⊥
+    first-without-predecessor apart k leads =
         let found = kid-of k (from-corner quads (kids-simple t is) (kids-distinct t is) v k (get_or (map kid faces) 0 0) leads).0 in
         let f = found.0 in
         let g = get_or faces 0 0 in
@@ -234,15 +234,15 @@ module _ (t : Topology) (is : IsTopology t) (n : Slotted) (are : AreChildEdges t
             ap (corner_of quads v) (sym found.2) ∙ kid-first found.0 found.1))
 
         go : (length edges ≡ length faces) ⊎ (length edges ≡ length faces + 1) → IsRow quads v true (map kid faces) at halves ends
-        go (inl closed) = row-of quads (kids-simple t is) (kids-distinct t is) v false (map kid faces) at halves ends (record { start = get_or (map kid faces) 0 0; is = from; no_predecessor = λ no. absurd (cc); led = λ yes. led closed }) zeros (closed-halves closed) e
-        go (inr apart) = row-of quads (kids-simple t is) (kids-distinct t is) v true (map kid faces) at halves ends (record { start = get_or (map kid faces) 0 0; is = from; no_predecessor = λ yes. alone apart; led = λ no. absurd (cc) }) zeros (open-halves apart) e
+        go (inl closed) = row-of quads (kids-simple t is) (kids-distinct t is) v false (map kid faces) at halves ends (record { start = get_or (map kid faces) 0 0; is = from; alone = λ no. absurd (cc); led = λ yes. led closed }) zeros (closed-halves closed) e
+        go (inr apart) = row-of quads (kids-simple t is) (kids-distinct t is) v true (map kid faces) at halves ends (record { start = get_or (map kid faces) 0 0; is = from; alone = λ yes. first-without-predecessor apart; led = λ no. absurd (cc) }) zeros (open-halves apart) e
 
 -- the half of an edge at each end is an edge of the next level
 pub half-among : (t : Topology) (is : IsTopology t) (n : Slotted) (are : AreChildEdges t.level n) (v e : ℕ) → e < length (edges_of t.level.polygons) → has_end v (edge_at t.level.polygons e) ≡ true → is_among n.slots (half_slot t.level.polygons v e) ≡ true
 half-among t is n are v e inside ends =
     let polygons = t.level.polygons in
     let found = any-place (same_side (edge_at polygons e)) polygons (listed-as-side polygons e (0, 0) inside) in
-    way found.0 found.2 (or_cases (nat_eq v (edge_at polygons e).0) (nat_eq v (edge_at polygons e).1) ends)
+    by-end found.0 found.2 (or_cases (nat_eq v (edge_at polygons e).0) (nat_eq v (edge_at polygons e).1) ends)
   where
     after : (f c : ℕ) → c < length (polygon_at t.level.polygons f) → corner_at t.level.polygons f c ≡ v → edge_from t.level.polygons f c ≡ e → is_among n.slots (half_slot t.level.polygons v e) ≡ true
     after f c h at number = ap (λ u. is_among n.slots (half_slot t.level.polygons u e)) (sym at) ∙ ap (λ d. is_among n.slots (half_slot t.level.polygons (corner_at t.level.polygons f c) d)) (sym number) ∙ slots-there t is n are f c h 0 0 (omega arith)
@@ -250,14 +250,14 @@ half-among t is n are v e inside ends =
     before : (f c : ℕ) → c < length (polygon_at t.level.polygons f) → corner_at t.level.polygons f c ≡ v → edge_from t.level.polygons f (before_in t.level.polygons f c) ≡ e → is_among n.slots (half_slot t.level.polygons v e) ≡ true
     before f c h at number = ap (λ u. is_among n.slots (half_slot t.level.polygons u e)) (sym at) ∙ ap (λ d. is_among n.slots (half_slot t.level.polygons (corner_at t.level.polygons f c) d)) (sym number) ∙ slots-there t is n are f c h 3 0 (omega arith)
 
-    way : (f : ℕ) → has_side (edge_at t.level.polygons e) (polygon_at t.level.polygons f) ≡ true → (nat_eq v (edge_at t.level.polygons e).0 ≡ true) ⊎ (nat_eq v (edge_at t.level.polygons e).1 ≡ true) → is_among n.slots (half_slot t.level.polygons v e) ≡ true
-    way f has (inl first) =
+    by-end : (f : ℕ) → has_side (edge_at t.level.polygons e) (polygon_at t.level.polygons f) ≡ true → (nat_eq v (edge_at t.level.polygons e).0 ≡ true) ⊎ (nat_eq v (edge_at t.level.polygons e).1 ≡ true) → is_among n.slots (half_slot t.level.polygons v e) ≡ true
+    by-end f has (inl first) =
         let polygons = t.level.polygons in
         let side : has_side (v, (edge_at polygons e).1) (polygon_at polygons f) ≡ true = ap (λ (u : ℕ). has_side (u, (edge_at polygons e).1) (polygon_at polygons f)) (eqb-true _ _ first) ∙ has in
         let number : edge_after polygons v f ≡ e = after-is polygons is.simple is.sides_once v f (edge_at polygons e).1 side ∙ ap (λ (u : ℕ). edge_number polygons (u, (edge_at polygons e).1)) (eqb-true _ _ first) ∙ own-number polygons e inside in
         let at = corner-there polygons v f (side-start (polygon_at polygons f) (v, (edge_at polygons e).1) side) in
         after f (corner_of polygons v f) at.0 at.1 number
-    way f has (inr second) =
+    by-end f has (inr second) =
         let polygons = t.level.polygons in
         let side : has_side ((edge_at polygons e).0, v) (polygon_at polygons f) ≡ true = ap (λ (u : ℕ). has_side ((edge_at polygons e).0, u) (polygon_at polygons f)) (eqb-true _ _ second) ∙ has in
         let number : edge_before polygons v f ≡ e = before-is polygons is.simple is.sides_once v f (edge_at polygons e).0 side ∙ ap (λ (u : ℕ). edge_number polygons ((edge_at polygons e).0, u)) (eqb-true _ _ second) ∙ own-number polygons e inside in

@@ -125,7 +125,7 @@ module _ (t : Topology) (is : IsTopology t) where
           record {
             faces = ap length faces-are ∙ child_polygons-length points polygons ∙ sym (ap (λ (k : Counts). k.faces) same ∙ faces);
             edges = ap length edges-are ∙ sym edge-count ∙ sym (ap (λ (k : Counts). k.edges) same ∙ edges);
-            points = point-count ∙ sym put.point_room;
+            points = point-count ∙ sym put.point_total;
           }
 
       -- the lists are those of a level

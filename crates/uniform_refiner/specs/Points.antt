@@ -30,9 +30,9 @@ pub record ArePoints (level : Level) (count : ℕ) (rows : Rows) : Type 0 where
   pub complete : rows.complete ≡ replicate count true
   pub face_sum : sum_by length rows.vertex_faces ≡ count_by (λ x. nat_lt x count) (joined (children_of level))
   pub edge_sum : sum_by length rows.vertex_edges ≡ count_by (λ x. nat_lt x count) (joined (map pair_list (edges_of (children_of level))))
-  pub point_room : rows.counts.points ≡ child_points level.point_count level.polygons
-  pub face_room : rows.counts.face_places ≡ sum_by length (children_of level)
-  pub edge_room : rows.counts.edge_places ≡ 2 * length (edges_of (children_of level))
+  pub point_total : rows.counts.points ≡ child_points level.point_count level.polygons
+  pub face_total : rows.counts.face_places ≡ sum_by length (children_of level)
+  pub edge_total : rows.counts.edge_places ≡ 2 * length (edges_of (children_of level))
 
 -- the sizes of the next level, if it has this many edges
 abbrev pub counts_for : Level → ℕ → Counts

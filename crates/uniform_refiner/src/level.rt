@@ -20,7 +20,7 @@ use std::alloc::Global;
 use std::sync::ledger::Ledger;
 
 // Returns memory for the next level with this many faces.
-pub(crate) fn room_for(
+pub(crate) fn empty_rows(
     alloc: Global,
     level: &Level,
     faces: u32,
@@ -53,17 +53,17 @@ pub(crate) fn put_level<L: Ledger>(
     level: &Level,
     edges: &SlotEdges,
     halves: &[Sharpness],
-    room: LevelRows,
+    empty: LevelRows,
     steps: &mut Steps<L>,
 ) -> Result<Level, Memory>
     requires numbered { IsNumbered level.now edges.now (map sharpness_of halves.now) }
-    requires room { room ≡ no_rows (counts_for level.now.level (length edges.now.ends)) level.now.level.method }
+    requires empty { empty ≡ no_rows (counts_for level.now.level (length edges.now.ends)) level.now.level.method }
     ensures level { IfOk result (λ next. next.level ≡ child_level level.now.level) }
     ensures complete { IfOk result (λ next. next.complete ≡ replicate (child_points level.now.level.point_count level.now.level.polygons) true) }
     ensures steps { steps.new ≡ steps.old + sum_by length level.now.level.polygons }
 {
     level.facts();
-    let mut rows = room;
+    let mut rows = empty;
     put_faces(level, edges, &mut rows, steps);
     put_edges(level, edges, halves, &mut rows);
     put_points(alloc, level, edges, &mut rows)?;

@@ -16,7 +16,7 @@ ghost use Rattle.uniform_refiner.specs.Refined.{IsRefined, IsRefusal};
 use crate::count::next_faces;
 use crate::fault::RefineFault;
 use crate::halves::put_halves;
-use crate::level::{put_level, room_for};
+use crate::level::{empty_rows, put_level};
 use crate::numbering::number_all;
 use crate::origins::{put_origins, put_places};
 use child_slots::{SlotEdges, half_table, no_edges};
@@ -65,8 +65,8 @@ fn refine_placed<L: Ledger>(
     ensures steps { steps.new ≤ steps.old + sum_by length level.now.level.polygons }
     ensures later { steps.old ≤ steps.new }
 {
-    let room = room_for(alloc, level, faces, edges)?;
-    let next = put_level(alloc, level, edges, halves, room, steps)?;
+    let empty = empty_rows(alloc, level, faces, edges)?;
+    let next = put_level(alloc, level, edges, halves, empty, steps)?;
     join(alloc, level, next, origins, places)
 }
 

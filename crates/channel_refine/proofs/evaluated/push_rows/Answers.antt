@@ -10,7 +10,7 @@ use Rattle.channel_refine.proofs.evaluated.push_rows.Goals as goal
 pub loop-row-init : goal.loop-row-init
 loop-row-init g c = record {
   values = ap (rows_of g.P.Primvar.numbers) c.requires.empty;
-  room = c.requires.room;
+  fits = c.requires.fits;
   taken = omega arith;
 }
 
@@ -31,7 +31,7 @@ pub push_reserved-requires : goal.push_reserved-requires
 push_reserved-requires g c =
     let counted = rows-counted g.P.Primvar.numbers c.loop-row.values.items (evaluated_row (map g.P.Primvar.numbers c.args.controls.now)) c.args.table.now.rows c.loop-row.row
     (omega (arith, c.loop-row-test.true, c.rows-row-end.ensures)) c.loop-row.invariant.values in
-    omega (arith, counted, c.loop-row.invariant.room, c.loop-row-test.true, c.rows-row-end.ensures)
+    omega (arith, counted, c.loop-row.invariant.fits, c.loop-row-test.true, c.rows-row-end.ensures)
 
 pub returns-clause-values : goal.returns-clause-values
 returns-clause-values g c =

@@ -9,6 +9,6 @@ use Rattle.channel_refine.proofs.evaluated.push_rows.Given as goal
 abbrev pub invariant-loop-row : goal.invariant-loop-row
 invariant-loop-row g l = record {
   values : rows_of g.P.Primvar.numbers l.values.items ≡ evaluated_rows (map g.P.Primvar.numbers l.controls) (take l.row l.table.rows);
-  room : length l.table.rows ≤ vec_capacity l.values;
+  fits : length l.table.rows ≤ vec_capacity l.values;
   taken : l.steps ≡ l.fn.steps + entries_of (take l.row l.table.rows);
 }

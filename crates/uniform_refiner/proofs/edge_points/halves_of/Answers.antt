@@ -1,7 +1,7 @@
 use Rattle.std.proofs.Common.{◌+◌, ◌*◌, arith}
 use Rattle.child_slots.proofs.SlotLemmas.{few-edges}
 use Rattle.child_slots.proofs.SlotTableLemmas.{among-number}
-use Rattle.uniform_refiner.proofs.EdgeWayLemmas.{halves-there}
+use Rattle.uniform_refiner.proofs.EdgeHalfLemmas.{halves-there}
 use Rattle.uniform_refiner.proofs.edge_points.halves_of.Goals as goal
 
 pub overflow_mul-e : goal.overflow_mul-e

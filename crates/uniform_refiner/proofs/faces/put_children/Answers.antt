@@ -6,7 +6,7 @@ use Rattle.child_slots.specs.Slots.{first_child, slots_at}
 use Rattle.uniform_refiner.specs.Put.{with_children}
 use Rattle.child_slots.proofs.FaceWalkLemmas.{slots-below}
 use Rattle.uniform_refiner.proofs.WholeEdgeLemmas.{slots-there}
-use Rattle.uniform_refiner.proofs.PutFaceLemmas.{children-room, children-step}
+use Rattle.uniform_refiner.proofs.PutFaceLemmas.{children-fit, children-step}
 use Rattle.child_slots.proofs.ChildNumberLemmas.{first-more}
 use Rattle.uniform_refiner.proofs.faces.put_children.Goals as goal
 
@@ -24,14 +24,14 @@ numbers_of-numbers-requires-clause-there g c =
 pub put_face-requires-clause-faces : goal.put_face-requires-clause-faces
 put_face-requires-clause-faces g c =
     let h : c.loop-c.c < length (polygon_at c.args.level.now.level.polygons c.args.f) = omega (arith, c.loop-c-test.true, ap length c.face_vertices-c-end.ensures) in
-    let room = children-room c.args.level.now c.facts.ensures c.args.f c.loop-c.c h in
-    omega (arith, room.0, c.requires.faces, ap (λ (r : Rows). length r.face_vertices) c.loop-c.invariant.put, ap (λ (r : Rows). r.counts.faces) c.loop-c.invariant.put)
+    let fits = children-fit c.args.level.now c.facts.ensures c.args.f c.loop-c.c h in
+    omega (arith, fits.0, c.requires.faces, ap (λ (r : Rows). length r.face_vertices) c.loop-c.invariant.put, ap (λ (r : Rows). r.counts.faces) c.loop-c.invariant.put)
 
 pub put_face-requires-clause-corners : goal.put_face-requires-clause-corners
 put_face-requires-clause-corners g c =
     let h : c.loop-c.c < length (polygon_at c.args.level.now.level.polygons c.args.f) = omega (arith, c.loop-c-test.true, ap length c.face_vertices-c-end.ensures) in
-    let room = children-room c.args.level.now c.facts.ensures c.args.f c.loop-c.c h in
-    omega (arith, room.1, c.requires.corners, ap (λ (r : Rows). sum_by length r.face_vertices) c.loop-c.invariant.put, ap (λ (r : Rows). r.counts.corners) c.loop-c.invariant.put, ap length c.child_corners-corners.ensures)
+    let fits = children-fit c.args.level.now c.facts.ensures c.args.f c.loop-c.c h in
+    omega (arith, fits.1, c.requires.corners, ap (λ (r : Rows). sum_by length r.face_vertices) c.loop-c.invariant.put, ap (λ (r : Rows). r.counts.corners) c.loop-c.invariant.put, ap length c.child_corners-corners.ensures)
 
 pub loop-c-preserved : goal.loop-c-preserved
 loop-c-preserved g c =

@@ -3,7 +3,7 @@ use Rattle.level_topology.proofs.ChildLemmas.{edges-corners}
 use Rattle.child_slots.proofs.FaceWalkLemmas.{walked-few}
 use Rattle.uniform_refiner.specs.Uniform.{all_places, whole_part}
 use Rattle.uniform_refiner.proofs.PlaceLemmas.{places-count}
-use Rattle.uniform_refiner.proofs.level.room_for.Goals as goal
+use Rattle.uniform_refiner.proofs.level.empty_rows.Goals as goal
 
 pub overflow_add-points-2 : goal.overflow_add-points-2
 overflow_add-points-2 c = record { fits = omega (arith, c.points.ensures, c.faces.ensures, c.edges.ensures, c.requires.refinable.short, c.requires.refinable.few, c.requires.faces, c.facts.ensures.small.faces, edges-corners c.args.level.now.level.polygons) }
