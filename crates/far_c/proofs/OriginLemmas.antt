@@ -18,11 +18,11 @@ module _ (mesh : MeshArrays) (depth : ℕ) (fault : FaultRecord) where
   -- origins are written, or an array is too short
   pub origins-answered : (old new : OriginPlaces) (origins : Origins) (counts : OriginCounts) (ok : Bool) (status : ℕ)
       → AreOriginsOfArrays mesh depth origins → counts ≡ places.counts_of (seen_origins origins) → ok ≡ places.are_long_enough (seen_origins origins) old
-      → (ok ≡ true → places.IsWritten (seen_origins origins) new) → (ok ≡ false → new ≡ old) → status ≡ (if ok then 0 else 1)
+      → (ok ≡ true → places.IsWritten (seen_origins origins) new) → places.IsRestKept (seen_origins origins) old new → (ok ≡ false → new ≡ old) → status ≡ (if ok then 0 else 1)
       → AnswersOrigins mesh depth status counts old new fault
-  origins-answered old new origins counts true status are counted enough written kept done =
-      inl (done, record { origins = origins; are = are; holds = (counted, written refl) })
-  origins-answered old new origins counts false status are counted enough written kept done =
+  origins-answered old new origins counts true status are counted enough written rest kept done =
+      inl (done, record { origins = origins; are = are; holds = (counted, (written refl, rest)) })
+  origins-answered old new origins counts false status are counted enough written rest kept done =
       inr (inl (done, record { origins = origins; are = are; holds = (counted, sym enough, kept refl) }))
 
   pub levels-status : IsLevelsRefusal mesh depth fault → 2 ≤ fault.status

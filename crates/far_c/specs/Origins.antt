@@ -17,10 +17,10 @@ pub record HasOrigins (mesh : MeshArrays) (depth : ℕ) (Holds : model.Origins �
   pub are : AreOriginsOfArrays mesh depth origins
   pub holds : Holds (seen_origins origins)
 
--- the origins are written, or only their counts if an array is too short
+-- the origins are written and later places unchanged, or only their counts are written if an array is too short
 abbrev pub AnswersOrigins : MeshArrays → ℕ → ℕ → OriginCounts → OriginPlaces → OriginPlaces → FaultRecord → Type 0
 AnswersOrigins mesh depth status counts old new fault =
     IsStatus status
-    (HasOrigins mesh depth (λ o. (counts ≡ places.counts_of o) × places.IsWritten o new))
+    (HasOrigins mesh depth (λ o. (counts ≡ places.counts_of o) × (places.IsWritten o new × places.IsRestKept o old new)))
     (HasOrigins mesh depth (λ o. (counts ≡ places.counts_of o) × (places.are_long_enough o old ≡ false) × (new ≡ old)))
     (λ found. IsLevelsRefusal mesh depth found × (new ≡ old)) fault
