@@ -9,10 +9,10 @@ ghost use Rattle.subdiv_model.specs.Child.{refined_level};
 ghost use Rattle.subdiv_model.specs.LevelText.{level_line, levels_text};
 ghost use Rattle.subdiv_model.specs.Refined.{Point};
 ghost use Rattle.subdiv_model.specs.Sparse.{Meeting};
-ghost use Rattle.subdiv_model.specs.SparseText.{points_with, sparse_text, written_level, written_points};
+ghost use Rattle.subdiv_model.specs.SparseText.{sparse_text};
 ghost use Rattle.level_counts.specs.Counts.{counts_of};
 ghost use Rattle.far_text.specs.Levels.{counts_line, levels_lines};
-ghost use Rattle.far_text.specs.SparseLines.{pointed, sparse_lines};
+ghost use Rattle.far_text.specs.SparseLines.{pointed_levels, sparse_lines};
 
 /// The line of a level follows from the level's counts.
 pub fn line_of_a_level()
@@ -27,6 +27,5 @@ pub fn lines_of_the_levels()
 /// The lines of the sparse levels up to a depth follow from the written part of each level and its points.
 pub fn lines_of_sparse_levels()
     ensures { (decimals : Option ℕ) (points : ℕ → List Point) (base : Level) (meeting : Meeting) (depth : ℕ)
-        → sparse_text decimals points base meeting depth ≡ sparse_lines decimals 0
-        (map (λ j. pointed (written_level base meeting j) (points_with (points j) (written_points base meeting j))) (range_with_len 0 (depth + 1))) }
+        → sparse_text decimals points base meeting depth ≡ sparse_lines decimals 0 (pointed_levels points base meeting depth) }
 {}
