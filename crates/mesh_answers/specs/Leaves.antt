@@ -1,5 +1,5 @@
 -- The leaves of the places of a face of a mesh.
-use Rattle.std.specs.Prelude.{ℕ, ◌≡◌, ◌+◌, List, [], map, Option, None, option_map}
+use Rattle.std.specs.Prelude.{ℕ, ◌≡◌, ◌+◌, List, [], ◌++◌, map, Option, None, option_map}
 use Rattle.std.specs.List.{range_with_len}
 use Rattle.subdiv_model.specs.Lists.{first_of}
 use Rattle.subdiv_model.specs.Base.{base_level}
@@ -12,6 +12,8 @@ use Rattle.far_model.specs.Command.{MapOptions}
 use Rattle.far_model.specs.Answer.{map_leaf, meeting_by, positions_of}
 use Rattle.far_fault.specs.View.{place_fault_of}
 use Rattle.far_fault.specs.declared.fault.PlaceFault.{PlaceFault}
+use Rattle.patch_map.specs.declared.leaf.Leaf.{Leaf}
+use Rattle.patch_map.specs.View.{location_of}
 use Rattle.patch_map.specs.Map.{LevelMap}
 use Rattle.patch_map.specs.Is.{IsMapOf}
 use Rattle.mesh_answers.specs.SparseLevels.{IsWithinLimits}
@@ -42,3 +44,11 @@ CanFind options mesh found = IsMapFor options mesh None found
 -- the leaves of a row of the grid
 abbrev pub row_leaves : MapOptions → ObjMesh → ℕ → List Location
 row_leaves options mesh j = map (λ i. map_leaf options mesh (i, j)) (range_with_len 0 (options.grid + 1))
+
+-- these are the leaves before, then those of a row of the grid
+abbrev pub HasRowLeaves : MapOptions → ObjMesh → ℕ → List Leaf → List Leaf → Type 0
+HasRowLeaves options mesh j before after = map location_of after ≡ map location_of before ++ row_leaves options mesh j
+
+-- these are the leaves of the places of these pairs
+abbrev pub AreLeavesAt : MapOptions → ObjMesh → List (ℕ × ℕ) → List Leaf → Type 0
+AreLeavesAt options mesh pairs leaves = map location_of leaves ≡ map (map_leaf options mesh) pairs

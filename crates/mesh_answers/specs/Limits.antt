@@ -1,5 +1,6 @@
 -- The limit points of a mesh at a depth.
-use Rattle.std.specs.Prelude.{ℕ, ◌≡◌, Option, None, Result, MatchResult}
+use Rattle.std.specs.Prelude.{ℕ, ◌≡◌, false, Option, None, Result, MatchResult, Vec}
+use Rattle.std.specs.Global.{Global}
 use Rattle.subdiv_model.specs.Base.{base_level}
 use Rattle.subdiv_model.specs.Child.{refined_level}
 use Rattle.subdiv_model.specs.ObjMesh.{ObjMesh}
@@ -14,6 +15,11 @@ use Rattle.far_fault.specs.View.{fault_of}
 use Rattle.far_fault.specs.declared.fault.FarFault.{FarFault}
 use Rattle.mesh_answers.specs.Refusals.{IsFound}
 use Rattle.mesh_answers.specs.MaskTables.{IsMaskTable, refusal_behind_table}
+use Rattle.far_text.specs.declared.reply.Reply.{Reply}
+use Rattle.far_text.specs.declared.reply.Reply.TheVariants.{Refined}
+use Rattle.level_topology.specs.Topology.{Topology}
+use Rattle.ratio128.specs.declared.point.Point3.{Point3}
+use Rattle.ratio128.specs.declared.valued.Valued.{Valued}
 
 -- the refusal of a mesh by the command for limit points at a depth
 abbrev pub limit_refusal : ℕ → ObjMesh → Option Fault
@@ -36,3 +42,8 @@ pub record AreLimitRows (mesh : ObjMesh) (depth : ℕ) (limits : ComposedChannel
 -- the level with this table, or the refusal of the mesh
 abbrev pub IsLimitComposition : ObjMesh → ℕ → Result ComposedChannel FarFault → Type 0
 IsLimitComposition mesh depth result = MatchResult result (AreLimitRows mesh depth) (λ fault. IsFound (fault_of fault) (limit_refusal depth mesh))
+
+-- the reply with a level of a mesh and its limit points
+abbrev pub limit_reply : ObjMesh → Option ℕ → Topology → Vec (Valued Point3) Global → Reply
+limit_reply mesh decimals level values =
+    Refined (record { level = level; values = values; common = mesh.common; texture = None }) (record { decimals = decimals; tags = false })

@@ -1,5 +1,6 @@
 -- The patch of a face of a level.
-use Rattle.std.specs.Prelude.{ℕ, ◌≡◌, List, Option, None, Result, MatchResult}
+use Rattle.std.specs.Prelude.{ℕ, ◌≡◌, List, Option, None, Result, MatchResult, Vec}
+use Rattle.std.specs.Global.{Global}
 use Rattle.subdiv_model.specs.Base.{base_level}
 use Rattle.subdiv_model.specs.Child.{refined_level}
 use Rattle.subdiv_model.specs.Mask.{Mask}
@@ -16,6 +17,10 @@ use Rattle.far_fault.specs.View.{fault_of}
 use Rattle.far_fault.specs.declared.fault.FarFault.{FarFault}
 use Rattle.mesh_answers.specs.Refusals.{IsFound}
 use Rattle.mesh_answers.specs.MaskTables.{IsMaskTable, refusal_behind_table}
+use Rattle.far_text.specs.declared.reply.Reply.{Reply}
+use Rattle.far_text.specs.declared.reply.Reply.TheVariants as variant
+use Rattle.ratio128.specs.declared.point.Point3.{Point3}
+use Rattle.ratio128.specs.declared.valued.Valued.{Valued}
 
 -- the refusal of a mesh by the command for a patch
 abbrev pub patch_refusal : PatchOptions → ObjMesh → Option Fault
@@ -41,3 +46,7 @@ pub record ArePatchRows (options : PatchOptions) (mesh : ObjMesh) (table : Table
 -- the rows of the patch, or the refusal of the mesh
 abbrev pub IsPatchComposition : PatchOptions → ObjMesh → Result Table FarFault → Type 0
 IsPatchComposition options mesh result = MatchResult result (ArePatchRows options mesh) (λ fault. IsFound (fault_of fault) (patch_refusal options mesh))
+
+-- the reply with the points of a patch of a mesh
+abbrev pub patch_reply : ObjMesh → ℕ → ℕ → Vec (Valued Point3) Global → Reply
+patch_reply mesh face grid values = variant.Patch (record { face = face; grid = grid; values = values; common = mesh.common })

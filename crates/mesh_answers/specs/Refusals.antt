@@ -1,6 +1,6 @@
 -- The refusals of a mesh.
 -- Source: this profile.
-use Rattle.std.specs.Prelude.{◌≡◌, List, ◌++◌, length, Option, Some, None}
+use Rattle.std.specs.Prelude.{◌≡◌, List, ◌++◌, length, Option, Some, None, Result, MatchResult}
 use Rattle.subdiv_model.specs.Lists.{first_of}
 use Rattle.subdiv_model.specs.MeshFault.{MeshFault, first_mesh_fault}
 use Rattle.subdiv_model.specs.ObjMesh.{ObjMesh}
@@ -8,6 +8,8 @@ use Rattle.far_model.specs.Command.{ReadCommand, MakeCommand}
 use Rattle.subdiv_model.specs.Fault.{Fault, Obj, Mesh, TooLarge, Overflow, Limit, Place, Table, Differs, Controls, Memory}
 use Rattle.subdiv_model.specs.Limits.{count_faults}
 use Rattle.far_model.specs.Answer.{answer_of_made, command_faults}
+use Rattle.far_fault.specs.View.{fault_of}
+use Rattle.far_fault.specs.declared.fault.FarFault.{FarFault}
 
 -- the fault of the mesh, or else this refusal
 abbrev pub refusal_unless : Option MeshFault → Option Fault → Option Fault
@@ -39,3 +41,7 @@ IsFound (Table fault) refusal = refusal ≡ Some (Table fault)
 IsFound (Differs row) refusal = refusal ≡ Some (Differs row)
 IsFound (Controls count) refusal = refusal ≡ Some (Controls count)
 IsFound other refusal = ⊥
+
+-- what was asked for, or the refusal
+abbrev pub IsFoundOr : {T : Type 0} → (T → Type 0) → Option Fault → Result T FarFault → Type 0
+IsFoundOr made refusal result = MatchResult result made (λ fault. IsFound (fault_of fault) refusal)

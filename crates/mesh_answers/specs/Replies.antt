@@ -25,6 +25,10 @@ pub record IsReplyTo (command : ReadCommand) (mesh : ObjMesh) (reply : Reply) : 
   pub says : reply_text reply ≡ written_text command mesh
   pub put : CanPut reply
 
+-- a reply to the mesh, or the refusal of the mesh
+abbrev pub IsReplyOr : ReadCommand → ObjMesh → Result Reply FarFault → Type 0
+IsReplyOr command mesh result = MatchResult result (λ reply. IsReplyTo command mesh reply) (λ fault. IsFound (fault_of fault) (refusal_of_mesh command mesh))
+
 -- the command does not refuse the mesh that it makes, and the reply has the command's text
 pub record IsMadeReply (command : MakeCommand) (reply : Reply) : Type 0 where
   pub good : refusal_of_made command ≡ None

@@ -26,6 +26,7 @@ use Rattle.far_fault.specs.declared.fault.FarFault.{FarFault}
 use Rattle.mesh_answers.specs.Refusals.{IsFound, refusal_by}
 use Rattle.mesh_answers.specs.declared.tracks.BaseTexture.{BaseTexture}
 use Rattle.mesh_answers.specs.declared.tracks.BaseTracks.{BaseTracks}
+use Rattle.far_text.specs.declared.textured_sparse.TexturedSparse.{TexturedSparse}
 
 -- the channel of the texture with its values, or nothing if the sparse levels have no texture
 abbrev pub IsSparseBase : Option Uv → ObjMesh → Option BaseTexture → Type 0
@@ -92,3 +93,10 @@ sparse_texture_refusal options mesh = first_of (sparse_texture_faults options me
 abbrev pub ArePointsLevelsFound : SparseOptions → ObjMesh → Result (Vec (SparseValues Point3) Global) FarFault → Type 0
 ArePointsLevelsFound options mesh result =
     MatchResult result (λ levels. ArePointsLevels options mesh levels.items) (λ fault. IsFound (fault_of fault) (refusal_by (sparse_position_faults options mesh) mesh))
+
+-- the sparse levels of a mesh and of its texture, as a reply writes them
+abbrev pub textured_sparse : ObjMesh → Option ℕ → Vec (SparseValues Point3) Global → Vec (SparseValues Point2) Global → TexturedSparse
+textured_sparse mesh decimals levels texture = record {
+  mesh = record { levels = levels; common = mesh.common; decimals = decimals };
+  texture = record { levels = texture; common = mesh.texture_common };
+}

@@ -1,12 +1,11 @@
 //! The counts of the levels of a mesh.
 
-ghost use Rattle.std.specs.Prelude.{◌≤◌, MatchResult};
+ghost use Rattle.std.specs.Prelude.{◌≤◌};
 ghost use Rattle.far_model.specs.Command.{Levels};
-ghost use Rattle.far_fault.specs.View.{fault_of};
 ghost use Rattle.ratio128.specs.StepsTaken.{StepsTaken};
 ghost use Rattle.subdiv_model.specs.ObjMesh.{ObjMesh};
 ghost use Rattle.mesh_answers.specs.Levels.{IsLevelWithin, AreCounted};
-ghost use Rattle.mesh_answers.specs.Refusals.{refusal_of_mesh, IsFound};
+ghost use Rattle.mesh_answers.specs.Refusals.{refusal_of_mesh, IsFoundOr};
 ghost use Rattle.mesh_answers.specs.Replies.{IsAnswerTo};
 ghost use Rattle.mesh_answers.specs.StepCounts.{later_faces};
 
@@ -30,8 +29,7 @@ fn counts_from<L: Ledger>(
 ) -> Result<Vec<LevelCounts>, FarFault>
     requires depth { depth ≤ 10 }
     requires level { (mesh : ObjMesh) × IsLevelWithin depth mesh level }
-    ensures counted { (mesh : ObjMesh) → IsLevelWithin depth mesh level → MatchResult result (λ counts. AreCounted mesh depth counts.items)
-        (λ fault. IsFound (fault_of fault) (refusal_of_mesh (Levels depth) mesh)) }
+    ensures counted { (mesh : ObjMesh) → IsLevelWithin depth mesh level → IsFoundOr (λ counts. AreCounted mesh depth counts.items) (refusal_of_mesh (Levels depth) mesh) result }
     ensures steps { (mesh : ObjMesh) → IsLevelWithin depth mesh level → StepsTaken result steps.old steps.new 0 (later_faces depth mesh) }
 {
     match count_levels(alloc, level, depth, steps) {

@@ -1,6 +1,6 @@
 //! The leaves of the places of a face of a mesh.
 
-ghost use Rattle.std.specs.Prelude.{◌≡◌, ◌≤◌, ◌<◌, ◌++◌, length, map, IfOk, OnOk, MatchResult, Some, None};
+ghost use Rattle.std.specs.Prelude.{◌≡◌, ◌≤◌, ◌<◌, length, IfOk, OnOk, Some, None};
 ghost use Rattle.std.specs.Option.{option_map};
 ghost use Rattle.feature_select.specs.Rule.{AnswersTest};
 ghost use Rattle.mesh_check.specs.Checked.{IsAccepted};
@@ -8,15 +8,14 @@ ghost use Rattle.subdiv_model.specs.Leaf.{grid_pairs, location_faults};
 ghost use Rattle.subdiv_model.specs.Lists.{first_of};
 ghost use Rattle.subdiv_model.specs.ObjMesh.{ObjMesh};
 ghost use Rattle.far_model.specs.Command.{Map, IsReadInRange};
-ghost use Rattle.far_model.specs.Answer.{map_leaf, test_of};
+ghost use Rattle.far_model.specs.Answer.{test_of};
 ghost use Rattle.subdiv_model.specs.Fault.{Place};
-ghost use Rattle.far_fault.specs.View.{fault_of, place_fault_of};
+ghost use Rattle.far_fault.specs.View.{place_fault_of};
 ghost use Rattle.far_words.specs.View.{map_of_code};
-ghost use Rattle.patch_map.specs.View.{location_of};
 ghost use Rattle.ratio128.specs.StepsTaken.{StepsTaken};
-ghost use Rattle.mesh_answers.specs.Leaves.{CanFind, IsLevelMap, IsMapFor, map_level_refusal, row_leaves};
-ghost use Rattle.mesh_answers.specs.Refusals.{refusal_of_mesh, IsFound};
-ghost use Rattle.mesh_answers.specs.Replies.{IsAnswerTo, IsReplyTo};
+ghost use Rattle.mesh_answers.specs.Leaves.{AreLeavesAt, CanFind, HasRowLeaves, IsLevelMap, IsMapFor, map_level_refusal};
+ghost use Rattle.mesh_answers.specs.Refusals.{IsFoundOr};
+ghost use Rattle.mesh_answers.specs.Replies.{IsAnswerTo, IsReplyOr, IsReplyTo};
 ghost use Rattle.mesh_answers.specs.StepCounts.{later_present};
 
 use crate::level::level_0;
@@ -75,8 +74,7 @@ fn push_row(
     requires range { IsReadInRange (Map (map_of_code options.now)) }
     requires row { j ≤ options.now.grid }
     requires found { (mesh : ObjMesh) × CanFind (map_of_code options.now) mesh found.now }
-    ensures { (mesh : ObjMesh) → CanFind (map_of_code options.now) mesh found.now
-        → OnOk result (map location_of leaves.new.items ≡ map location_of leaves.old.items ++ row_leaves (map_of_code options.now) mesh j) }
+    ensures { let asked = map_of_code options.now in (mesh : ObjMesh) → CanFind asked mesh found.now → OnOk result (HasRowLeaves asked mesh j leaves.old.items leaves.new.items) }
 {
     let MapOptions {
         face,
@@ -94,8 +92,7 @@ fn push_row(
 fn leaves_of(alloc: Global, found: &PatchMap, options: &MapOptions) -> Result<Vec<Leaf>, Memory>
     requires range { IsReadInRange (Map (map_of_code options.now)) }
     requires found { (mesh : ObjMesh) × CanFind (map_of_code options.now) mesh found.now }
-    ensures { (mesh : ObjMesh) → CanFind (map_of_code options.now) mesh found.now
-        → IfOk result (λ leaves. map location_of leaves.items ≡ map (map_leaf (map_of_code options.now) mesh) (grid_pairs options.now.grid)) }
+    ensures { let asked = map_of_code options.now in (mesh : ObjMesh) → CanFind asked mesh found.now → IfOk result (λ leaves. AreLeavesAt asked mesh (grid_pairs options.now.grid) leaves.items) }
 {
     let side = options.grid as usize + 1;
     let mut leaves = Vec::with_capacity(alloc, side * side)?;
@@ -125,9 +122,7 @@ fn reply_unless(
 ) -> Result<Reply, FarFault>
     requires range { IsReadInRange (Map (map_of_code options.now)) }
     requires found { (mesh : ObjMesh) × IsMapFor (map_of_code options.now) mesh fault found.now }
-    ensures { (mesh : ObjMesh) → IsMapFor (map_of_code options.now) mesh fault found.now
-        → MatchResult result (λ reply. IsReplyTo (Map (map_of_code options.now)) mesh reply)
-        (λ fault. IsFound (fault_of fault) (refusal_of_mesh (Map (map_of_code options.now)) mesh)) }
+    ensures { let asked = map_of_code options.now in (mesh : ObjMesh) → IsMapFor asked mesh fault found.now → IsReplyOr (Map asked) mesh result }
 {
     match fault {
         Some(fault) => Err(FarFault::Place(fault)),
@@ -147,9 +142,7 @@ fn map_levels<T: FaceTest, F: Fn(&FaceFacts) -> bool, L: Ledger>(
     requires level { (mesh : ObjMesh) × IsAccepted mesh level }
     requires answers { AnswersTest F.Fn rule.now.0 (T.meets rule.now.1) }
     requires test { T.meets rule.now.1 ≡ test_of (map_of_code options.now).select }
-    ensures found { (mesh : ObjMesh) → IsAccepted mesh level
-        → MatchResult result (λ found. IsLevelMap (map_of_code options.now) mesh found)
-        (λ fault. IsFound (fault_of fault) (map_level_refusal (map_of_code options.now) mesh)) }
+    ensures found { let asked = map_of_code options.now in (mesh : ObjMesh) → IsAccepted mesh level → IsFoundOr (IsLevelMap asked mesh) (map_level_refusal asked mesh) result }
     ensures steps { (mesh : ObjMesh) → IsAccepted mesh level
         → StepsTaken result steps.old steps.new 0 (later_present (map_of_code options.now).select options.now.depth mesh) }
 {
@@ -171,9 +164,7 @@ fn map_from<T: FaceTest, F: Fn(&FaceFacts) -> bool, L: Ledger>(
     requires level { (mesh : ObjMesh) × IsAccepted mesh level }
     requires answers { AnswersTest F.Fn rule.now.0 (T.meets rule.now.1) }
     requires test { T.meets rule.now.1 ≡ test_of (map_of_code options.now).select }
-    ensures reply { (mesh : ObjMesh) → IsAccepted mesh level
-        → MatchResult result (λ reply. IsReplyTo (Map (map_of_code options.now)) mesh reply)
-        (λ fault. IsFound (fault_of fault) (refusal_of_mesh (Map (map_of_code options.now)) mesh)) }
+    ensures reply { (mesh : ObjMesh) → IsAccepted mesh level → IsReplyOr (Map (map_of_code options.now)) mesh result }
     ensures steps { (mesh : ObjMesh) → IsAccepted mesh level
         → StepsTaken result steps.old steps.new 0 (later_present (map_of_code options.now).select options.now.depth mesh) }
 {

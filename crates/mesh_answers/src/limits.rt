@@ -1,12 +1,11 @@
 //! The limit points of a mesh at a depth.
 
-ghost use Rattle.std.specs.Prelude.{◌≡◌, ◌≤◌, false, None, Err, IfOk, IsOkAnd, MatchResult};
+ghost use Rattle.std.specs.Prelude.{◌≡◌, ◌≤◌, Err, IfOk, IsOkAnd, MatchResult};
 ghost use Rattle.far_model.specs.Command.{Limit, IsReadInRange};
 ghost use Rattle.far_fault.specs.View.{fault_of};
 ghost use Rattle.far_words.specs.View.{limit_of_code};
-ghost use Rattle.far_text.specs.declared.reply.Reply.TheVariants.{Refined};
 ghost use Rattle.ratio128.specs.StepsTaken.{StepsTaken};
-ghost use Rattle.mesh_answers.specs.Limits.{AreLimitRows, IsLimitComposition, limit_fault_of, limit_refusal};
+ghost use Rattle.mesh_answers.specs.Limits.{AreLimitRows, IsLimitComposition, limit_fault_of, limit_refusal, limit_reply};
 ghost use Rattle.mesh_answers.specs.Refusals.{IsFound};
 ghost use Rattle.mesh_answers.specs.Replies.{IsAnswerTo, IsReplyTo};
 ghost use Rattle.mesh_answers.specs.StepCounts.{level_faces_to, limit_steps};
@@ -119,8 +118,7 @@ fn with_points(
     values: Result<Vec<Valued<Point3>>, Memory>,
 ) -> Result<Reply, Memory>
     ensures { MatchResult values
-        (λ values. IsOkAnd result (λ reply. reply
-        ≡ Refined (record { level = level; values = values; common = mesh.now.common; texture = None }) (record { decimals = options.now.decimals; tags = false })))
+        (λ values. IsOkAnd result (λ reply. reply ≡ limit_reply mesh.now options.now.decimals level values))
         (λ fault. result ≡ Err fault) }
 {
     let common = mesh.scale();

@@ -4,9 +4,8 @@ ghost use Rattle.std.specs.Prelude.{◌≡◌, length, Err, IfOk, IsOkAnd, Match
 ghost use Rattle.far_model.specs.Command.{Patch, IsReadInRange};
 ghost use Rattle.far_fault.specs.View.{fault_of};
 ghost use Rattle.far_words.specs.View.{patch_of_code};
-ghost use Rattle.far_text.specs.declared.reply.Reply.TheVariants as variant;
 ghost use Rattle.ratio128.specs.StepsTaken.{StepsTaken};
-ghost use Rattle.mesh_answers.specs.Patches.{ArePatchRows, IsPatchComposition, patch_fault_of};
+ghost use Rattle.mesh_answers.specs.Patches.{ArePatchRows, IsPatchComposition, patch_fault_of, patch_reply};
 ghost use Rattle.mesh_answers.specs.Replies.{IsAnswerTo, IsReplyTo};
 ghost use Rattle.mesh_answers.specs.StepCounts.{level_faces_to, patch_steps};
 ghost use Rattle.mesh_answers.specs.Tables.{IsComposedOf};
@@ -111,8 +110,7 @@ fn with_places(
     values: Result<Vec<Valued<Point3>>, Memory>,
 ) -> Result<Reply, Memory>
     ensures { MatchResult values
-        (λ values. IsOkAnd result (λ reply. reply
-        ≡ variant.Patch (record { face = options.now.face; grid = options.now.grid; values = values; common = mesh.now.common })))
+        (λ values. IsOkAnd result (λ reply. reply ≡ patch_reply mesh.now options.now.face options.now.grid values))
         (λ fault. result ≡ Err fault) }
 {
     let common = mesh.scale();

@@ -1,10 +1,9 @@
 //! Tables that can be evaluated over the points of a mesh.
 
-ghost use Rattle.std.specs.Prelude.{◌≡◌, ◌*◌, ◌<◌, ◌≤◌, MatchResult};
-ghost use Rattle.subdiv_model.specs.Channel.{number_bound};
+ghost use Rattle.std.specs.Prelude.{MatchResult};
 ghost use Rattle.subdiv_model.specs.Fault.{Overflow, ValueOverflow};
-ghost use Rattle.stencil_apply.specs.Table.{IsTable, greatest_of};
-ghost use Rattle.far_fault.specs.View.{fault_of, track_of};
+ghost use Rattle.far_fault.specs.View.{track_of};
+ghost use Rattle.mesh_answers.specs.Tables.{IsFitting, IsUnfitting};
 
 use far_fault::{FarFault, OverflowKind, Track};
 use stencil_apply::{StencilTable, scale_fits};
@@ -17,9 +16,7 @@ pub fn fitting(
     track: Track,
     level: u32,
 ) -> Result<StencilTable, FarFault>
-    ensures { MatchResult result
-        (λ found. (found ≡ table) × IsTable table × (greatest_of table * most ≤ number_bound))
-        (λ fault. (fault_of fault ≡ Overflow (track_of track) level ValueOverflow) × IsTable table × (number_bound < greatest_of table * most)) }
+    ensures { MatchResult result (IsFitting table most) (IsUnfitting table most (Overflow (track_of track) level ValueOverflow)) }
 {
     table.facts();
     if scale_fits(&table, most) {

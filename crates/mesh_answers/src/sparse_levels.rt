@@ -9,9 +9,9 @@ ghost use Rattle.far_fault.specs.Walk.{walk_fault_of};
 ghost use Rattle.ratio128.specs.StepsTaken.{StepsTaken};
 ghost use Rattle.far_words.specs.View.{sparse_of_code};
 ghost use Rattle.far_text.specs.declared.reply.Reply.TheVariants as variant;
-ghost use Rattle.mesh_answers.specs.Refusals.{IsFound, refusal_of_mesh};
-ghost use Rattle.mesh_answers.specs.Replies.{IsAnswerTo, IsReplyTo};
-ghost use Rattle.mesh_answers.specs.SparseLevels.{ArePointsLevels, AreSparseTexture, AreSparseTracks, IsSparseBase, sparse_texture_refusal};
+ghost use Rattle.mesh_answers.specs.Refusals.{IsFoundOr};
+ghost use Rattle.mesh_answers.specs.Replies.{IsAnswerTo, IsReplyOr};
+ghost use Rattle.mesh_answers.specs.SparseLevels.{ArePointsLevels, AreSparseTexture, AreSparseTracks, IsSparseBase, sparse_texture_refusal, textured_sparse};
 ghost use Rattle.mesh_answers.specs.StepCounts.{sparse_later_steps, where_sparse_texture};
 
 use crate::sparse_positions::selected_points;
@@ -47,9 +47,7 @@ fn texture_levels<L: Ledger>(
     requires range { IsReadInRange (Sparse (sparse_of_code options.now)) }
     requires numbers { map (λ list. list.items) numbers.now ≡ texture_meeting (sparse_of_code options.now) mesh.now }
     requires base { IsSparseBase (sparse_uv (sparse_of_code options.now) mesh.now) mesh.now (Some texture) }
-    ensures levels { MatchResult result
-        (λ levels. AreSparseTexture (sparse_of_code options.now) mesh.now levels.items)
-        (λ fault. IsFound (fault_of fault) (sparse_texture_refusal (sparse_of_code options.now) mesh.now)) }
+    ensures levels { let asked = sparse_of_code options.now in IsFoundOr (λ levels. AreSparseTexture asked mesh.now levels.items) (sparse_texture_refusal asked mesh.now) result }
     ensures steps { StepsTaken result steps.old steps.new 0 (where_sparse_texture (sparse_of_code options.now) mesh.now (sparse_uv (sparse_of_code options.now) mesh.now)) }
 {
     mesh.facts();
@@ -72,9 +70,7 @@ fn texture_like<L: Ledger>(
     requires range { IsReadInRange (Sparse (sparse_of_code options.now)) }
     requires levels { ArePointsLevels (sparse_of_code options.now) mesh.now levels.now }
     requires base { IsSparseBase (sparse_uv (sparse_of_code options.now) mesh.now) mesh.now (Some texture) }
-    ensures levels { MatchResult result
-        (λ levels. AreSparseTexture (sparse_of_code options.now) mesh.now levels.items)
-        (λ fault. IsFound (fault_of fault) (sparse_texture_refusal (sparse_of_code options.now) mesh.now)) }
+    ensures levels { let asked = sparse_of_code options.now in IsFoundOr (λ levels. AreSparseTexture asked mesh.now levels.items) (sparse_texture_refusal asked mesh.now) result }
     ensures steps { StepsTaken result steps.old steps.new 0 (where_sparse_texture (sparse_of_code options.now) mesh.now (sparse_uv (sparse_of_code options.now) mesh.now)) }
 {
     let numbers = selected_levels(alloc, levels, options.depth)?;
@@ -104,10 +100,7 @@ fn with_texture(
     texture: Result<Vec<SparseValues<Point2>>, FarFault>,
 ) -> Result<Reply, FarFault>
     ensures { MatchResult texture
-        (λ texture. IsOkAnd result (λ reply. reply ≡ variant.TexturedSparse (record {
-          mesh = record { levels = levels; common = mesh.now.common; decimals = options.now.decimals };
-          texture = record { levels = texture; common = mesh.now.texture_common };
-        })))
+        (λ texture. IsOkAnd result (λ reply. reply ≡ variant.TexturedSparse (textured_sparse mesh.now options.now.decimals levels texture)))
         (λ fault. result ≡ Err fault) }
 {
     let points = sparse_mesh(mesh, options, levels);
@@ -132,8 +125,7 @@ fn textured_reply<L: Ledger>(
     requires range { IsReadInRange (Sparse (sparse_of_code options.now)) }
     requires levels { ArePointsLevels (sparse_of_code options.now) mesh.now levels.items }
     requires base { IsSparseBase (sparse_uv (sparse_of_code options.now) mesh.now) mesh.now (Some texture) }
-    ensures reply { MatchResult result (λ reply. IsReplyTo (Sparse (sparse_of_code options.now)) mesh.now reply)
-        (λ fault. IsFound (fault_of fault) (refusal_of_mesh (Sparse (sparse_of_code options.now)) mesh.now)) }
+    ensures reply { IsReplyOr (Sparse (sparse_of_code options.now)) mesh.now result }
     ensures steps { StepsTaken result steps.old steps.new 0 (where_sparse_texture (sparse_of_code options.now) mesh.now (sparse_uv (sparse_of_code options.now) mesh.now)) }
 {
     let texture = texture_like(alloc, mesh, &levels, texture, options, steps);
@@ -152,8 +144,7 @@ fn reply_with<L: Ledger>(
     requires range { IsReadInRange (Sparse (sparse_of_code options.now)) }
     requires levels { ArePointsLevels (sparse_of_code options.now) mesh.now levels.items }
     requires base { IsSparseBase (sparse_uv (sparse_of_code options.now) mesh.now) mesh.now texture }
-    ensures reply { MatchResult result (λ reply. IsReplyTo (Sparse (sparse_of_code options.now)) mesh.now reply)
-        (λ fault. IsFound (fault_of fault) (refusal_of_mesh (Sparse (sparse_of_code options.now)) mesh.now)) }
+    ensures reply { IsReplyOr (Sparse (sparse_of_code options.now)) mesh.now result }
     ensures steps { StepsTaken result steps.old steps.new 0 (where_sparse_texture (sparse_of_code options.now) mesh.now (sparse_uv (sparse_of_code options.now) mesh.now)) }
 {
     match texture {
@@ -172,8 +163,7 @@ fn sparse_from<L: Ledger>(
 ) -> Result<Reply, FarFault>
     requires range { IsReadInRange (Sparse (sparse_of_code options.now)) }
     requires tracks { AreSparseTracks (sparse_of_code options.now) mesh.now tracks }
-    ensures reply { MatchResult result (λ reply. IsReplyTo (Sparse (sparse_of_code options.now)) mesh.now reply)
-        (λ fault. IsFound (fault_of fault) (refusal_of_mesh (Sparse (sparse_of_code options.now)) mesh.now)) }
+    ensures reply { IsReplyOr (Sparse (sparse_of_code options.now)) mesh.now result }
     ensures steps { StepsTaken result steps.old steps.new 0 (sparse_later_steps (sparse_of_code options.now) mesh.now) }
 {
     let BaseTracks { positions, texture } = tracks;

@@ -1,12 +1,11 @@
 //! The sparse levels of the positions of a mesh.
 
-ghost use Rattle.std.specs.Prelude.{◌≡◌, ◌+◌, ◌≤◌, length, MatchResult};
+ghost use Rattle.std.specs.Prelude.{◌≡◌, ◌+◌, ◌≤◌, length};
 ghost use Rattle.feature_select.specs.Rule.{AnswersTest};
 ghost use Rattle.far_model.specs.Answer.{positions_of, test_of};
-ghost use Rattle.far_fault.specs.View.{fault_of};
 ghost use Rattle.far_words.specs.View.{sparse_of_code};
 ghost use Rattle.ratio128.specs.StepsTaken.{StepsTaken};
-ghost use Rattle.mesh_answers.specs.Refusals.{IsFound};
+ghost use Rattle.mesh_answers.specs.Refusals.{IsFoundOr};
 ghost use Rattle.mesh_answers.specs.SparseLevels.{ArePointsLevels, ArePointsLevelsFound, IsWithinLimits, sparse_position_refusal};
 ghost use Rattle.mesh_answers.specs.StepCounts.{sparse_position_steps};
 
@@ -38,9 +37,7 @@ fn points_levels<T: FaceTest, F: Fn(&FaceFacts) -> bool, L: Ledger>(
     requires base { positions ≡ positions_of mesh.now }
     requires answers { AnswersTest F.Fn rule.now.0 (T.meets rule.now.1) }
     requires test { T.meets rule.now.1 ≡ test_of (sparse_of_code options.now).select }
-    ensures levels { MatchResult result
-        (λ levels. ArePointsLevels (sparse_of_code options.now) mesh.now levels.items)
-        (λ fault. IsFound (fault_of fault) (sparse_position_refusal (sparse_of_code options.now) mesh.now)) }
+    ensures levels { let asked = sparse_of_code options.now in IsFoundOr (λ levels. ArePointsLevels asked mesh.now levels.items) (sparse_position_refusal asked mesh.now) result }
     ensures steps { StepsTaken result steps.old steps.new 0 (sparse_position_steps (sparse_of_code options.now) mesh.now) }
 {
     mesh.facts();
@@ -61,9 +58,7 @@ pub(crate) fn selected_points<L: Ledger>(
     requires depth { options.now.depth ≤ 10 }
     requires mesh { IsWithinLimits mesh.now }
     requires base { positions ≡ positions_of mesh.now }
-    ensures levels { MatchResult result
-        (λ levels. ArePointsLevels (sparse_of_code options.now) mesh.now levels.items)
-        (λ fault. IsFound (fault_of fault) (sparse_position_refusal (sparse_of_code options.now) mesh.now)) }
+    ensures levels { let asked = sparse_of_code options.now in IsFoundOr (λ levels. ArePointsLevels asked mesh.now levels.items) (sparse_position_refusal asked mesh.now) result }
     ensures steps { StepsTaken result steps.old steps.new 0 (sparse_position_steps (sparse_of_code options.now) mesh.now) }
 {
     match options.select {
