@@ -43,3 +43,8 @@ pub record AnswersLine {K : Type 0} (sink : Ghosts K) (mesh : ObjMesh) (before :
   pub steps : taken ≤ line_steps old.depth mesh (line_words line)
   pub later : sink.faults k ≤ sink.faults k'
   pub fixed : sink.fixed k' ≡ sink.fixed k
+
+-- a line after those that the mesh had, whichever they were
+abbrev pub AnswersAfter : {K : Type 0} → Ghosts K → ℕ → List ℕ → Posed → Posed → K → K → Result (Unit {0}) FarFault → ℕ → Type 0
+AnswersAfter sink number line old new k k' result taken =
+    (mesh : ObjMesh) (before : List (List (List ℕ))) → IsPosedAfter mesh before old → AnswersLine sink mesh before number line old new k k' result taken

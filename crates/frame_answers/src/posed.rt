@@ -5,8 +5,7 @@ ghost use Rattle.subdiv_model.specs.ObjMesh.{ObjMesh};
 ghost use Rattle.far_fault.specs.declared.fault.FarFault.TheVariants as answered;
 ghost use Rattle.ratio128.specs.StepsTaken.{StepsTaken};
 ghost use Rattle.frame_answers.specs.Posed.{IsPosedAfter};
-ghost use Rattle.frame_answers.specs.Answers.{IsStart, AnswersLine};
-ghost use Rattle.frame_answers.specs.Laws.{Lines};
+ghost use Rattle.frame_answers.specs.Answers.{IsStart, AnswersAfter};
 ghost use Rattle.frame_answers.specs.Kept.{IsTableWithin};
 ghost use Rattle.frame_answers.specs.StepCounts.{start_least};
 
@@ -106,8 +105,7 @@ impl PosedMesh {
         sink: &mut K,
         steps: &mut Steps<L>,
     ) -> Result<(), FarFault>
-        ensures answers { (mesh : ObjMesh) (before : Lines) → IsPosedAfter mesh before self.old
-            → AnswersLine K.Sink mesh before number line.now self.old self.new sink.old sink.new result (steps.new - steps.old) }
+        ensures answers { AnswersAfter K.Sink number line.now self.old self.new sink.old sink.new result (steps.new - steps.old) }
         ensures later { steps.old ≤ steps.new }
     {
         match read_frame_line(line, self.session.controls(), self.common) {
