@@ -4,6 +4,7 @@ use Rattle.far_io.specs.Bytes.{Took}
 use Rattle.far_io.specs.Text.{TextInput, passed}
 use Rattle.far_io.specs.declared.source.Source.{Ghosts as Source}
 use Rattle.far_io.specs.declared.source.InputFault.{InputFault}
+use Rattle.far_io.specs.declared.sink.Sink.{Ghosts as Sink}
 use Rattle.subdiv_model.specs.Fault.{Fault, Memory}
 use Rattle.subdiv_model.specs.ReadObj.{obj_lines}
 use Rattle.far_model.specs.Command.{FramesOptions, Frames}
@@ -15,6 +16,7 @@ use Rattle.far_fault.specs.declared.fault.FarFault.{FarFault}
 use Rattle.mesh_answers.specs.MeshText.{IsMeshText}
 use Rattle.far_engine.specs.Input.{input_fault_of}
 use Rattle.far_engine.specs.Stream.{TookLines, IsEnd}
+use Rattle.far_engine.specs.FrameLines.{RunsFrames, begun}
 use Rattle.far_engine.specs.declared.mesh_part.MeshEnd.{MeshEnd}
 use Rattle.far_engine.specs.declared.mesh_part.MeshEnd.TheVariants.{Closed, Last, Input}
 use Rattle.far_engine.specs.declared.mesh_part.MeshPart.{MeshPart}
@@ -88,3 +90,8 @@ pub record IsPart {S : Type 0} (source : Source S) (options : FramesOptions) (s 
 abbrev pub IsPartOr : {S : Type 0} → Source S → FramesOptions → S → S → Result MeshPart FarFault → Type 0
 IsPartOr source options s s' (Ok part) = IsPart source options s s' part
 IsPartOr source options s s' (Err fault) = IsEnd source (rule_of (Frames options)) s s' [] (Some (fault_of fault))
+
+-- the run of `frames` from the start of a source whose mesh was read
+abbrev pub RunsBehind : {S K : Type 0} → (source : Source S) → (sink : Sink K) → FramesOptions → MeshPart → S → S → K → K → Option Fault → ℕ → ℕ → Type 0
+RunsBehind {S} {K} source sink options part s s' k k' outcome old new =
+    (first : S) → IsPart source options first s part → RunsFrames (begun source sink options first k old) s' k' outcome new

@@ -4,7 +4,7 @@ ghost use Rattle.std.specs.Prelude.{◌≡◌, ◌≤◌, IfSome};
 ghost use Rattle.far_fault.specs.View.{outcome_of};
 ghost use Rattle.far_words.specs.View.{frames_of_code};
 ghost use Rattle.far_engine.specs.FrameLines.{CanCount, MayStream, Origin, RunsFrames, begun};
-ghost use Rattle.far_engine.specs.MeshPart.{IsPart};
+ghost use Rattle.far_engine.specs.MeshPart.{RunsBehind};
 ghost use Rattle.frame_answers.specs.Answers.{IsStart};
 
 use crate::frame_lines::FrameLines;
@@ -60,8 +60,7 @@ fn answer_part<S: Source, K: Sink, L: Ledger>(
 ) -> Result<(), FarFault>
     requires depth { options.now.depth ≤ 10 }
     requires counted { IfSome part.lines CanCount }
-    ensures { let asked = frames_of_code options.now in (s : S) → IsPart S.Source asked s source.old part
-        → RunsFrames (begun S.Source K.Sink asked s sink.old steps.old) source.new sink.new (outcome_of result) steps.new }
+    ensures { RunsBehind S.Source K.Sink (frames_of_code options.now) part source.old source.new sink.old sink.new (outcome_of result) steps.old steps.new }
 {
     let MeshPart { mesh, lines } = part;
     let mut posed = start(alloc, mesh, options.depth, steps)?;
