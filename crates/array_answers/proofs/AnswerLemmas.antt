@@ -1,5 +1,5 @@
 -- The result for the mesh of arrays is the result for the arrays.
-use Rattle.std.proofs.Common.{◌≡◌, ℕ, ◌≤◌, None, inl, inr, List, map, subst, sym, ap, ◌∙◌, ◌<◌}
+use Rattle.std.proofs.Common.{◌≡◌, ℕ, ◌≤◌, None, inr, List, map, subst, sym, ap, ◌∙◌, ◌<◌}
 use Rattle.std.specs.List.{All}
 use Rattle.ratio128.specs.declared.point.Point3.{Point3}
 use Rattle.ratio128.specs.declared.valued.Valued.{Valued}
@@ -24,22 +24,17 @@ use Rattle.mesh_answers.proofs.PositionLemmas.{point-controls, refined-points}
 use Rattle.far_text.specs.Points.{CanBeWritten}
 use Rattle.point_arrays.specs.Points.{CanBePut}
 use Rattle.mesh_arrays.specs.Arrays.{mesh_of_arrays}
-use Rattle.mesh_arrays.specs.Faults.{IsMeshOf, IsArraysFault}
+use Rattle.mesh_arrays.specs.Faults.{IsMeshOf}
 use Rattle.mesh_arrays.specs.declared.arrays.MeshArrays.{MeshArrays}
-use Rattle.mesh_arrays.specs.declared.fault.ArraysFault.{ArraysFault}
 use Rattle.fault_record.specs.Back.{IsRecordOf}
 use Rattle.fault_record.specs.declared.record.FaultRecord.{FaultRecord}
 use Rattle.mesh_check.specs.declared.fault.MeshFault.{MeshFault}
 use Rattle.mesh_arrays.specs.declared.fault.ArraysFault.TheVariants as arrays_fault
 use Rattle.fault_record.specs.Arrays.{row}
-use Rattle.array_answers.specs.Refused.{IsRefusal, AreNoMesh, record_of_arrays}
+use Rattle.array_answers.specs.Refused.{IsRefusal, AreNoMesh}
 use Rattle.array_answers.specs.Faults.{AreListed, AreFaultsOf}
 use Rattle.array_answers.specs.Composed.{ArePointsOf}
 use Rattle.array_answers.specs.declared.points.RefinedPoints.{RefinedPoints}
-
--- the arrays are refused
-pub no-mesh : (depth : ℕ) (faults : List Fault) (arrays : MeshArrays) (fault : ArraysFault) (found : FaultRecord) → IsArraysFault arrays fault → found ≡ record_of_arrays fault → IsRefusal depth faults arrays found
-no-mesh depth faults arrays fault found is recorded = inr (inl (record { fault = fault; is = is; recorded = recorded }))
 
 -- their mesh is refused
 pub refused : (depth : ℕ) (arrays : MeshArrays) (mesh : ObjMesh) (fault : Fault) (found : FaultRecord) → IsMeshOf arrays mesh → IsFound fault (refusal_by (table_faults depth mesh) mesh) → IsRecordOf found fault

@@ -17,9 +17,8 @@ use Rattle.mesh_arrays.specs.Faults.{IsMeshOf}
 use Rattle.mesh_arrays.specs.declared.arrays.MeshArrays.{MeshArrays}
 use Rattle.fault_record.specs.declared.record.FaultRecord.{FaultRecord}
 use Rattle.array_answers.specs.Refused.{IsRefusedBy}
-use Rattle.array_answers.specs.Sparse.{AreSparseFound, AreSparseIn, AreSparseOf, IsSparseRefused, sparse_asked}
+use Rattle.array_answers.specs.Sparse.{AreSparseIn, AreSparseOf, IsSparseRefused}
 use Rattle.array_answers.specs.declared.sparse.SparseArrays.{SparseArrays}
-use Rattle.array_answers.specs.declared.sparse.SparseRequest.{SparseRequest}
 use Rattle.array_answers.proofs.AnswerLemmas.{all-can-be-put}
 
 -- a level has a value for each of its written points
@@ -48,9 +47,3 @@ pub sparse-in : (options : SparseOptions) (arrays : MeshArrays) (mesh : ObjMesh)
     MatchResult r (AreSparseOf options mesh) (IsRefusedBy (sparse_position_faults options mesh) mesh) → MatchResult r (AreSparseIn options arrays) (IsSparseRefused (Some options) arrays)
 sparse-in options arrays mesh (Ok found) good are = record { good = subst (IsMeshOf arrays) good.same good; are = subst (λ m. AreSparseOf options m found) good.same are }
 sparse-in options arrays mesh (Err found) good refused = inr (subst (λ m. IsRefusedBy (sparse_position_faults options m) m found) good.same refused)
-
--- the result is the requested one
-pub asked-sparse : (request : SparseRequest) (arrays : MeshArrays) (options : SparseOptions) (r : Result SparseArrays FaultRecord) → Some options ≡ sparse_asked request →
-    MatchResult r (AreSparseIn options arrays) (IsSparseRefused (Some options) arrays) → AreSparseFound request arrays r
-asked-sparse request arrays options (Ok found) asked are = record { options = options; asked = sym asked; are = are }
-asked-sparse request arrays options (Err found) asked refused = subst (λ o. IsSparseRefused o arrays found) asked refused

@@ -106,16 +106,6 @@ kept-still places masks terms v place mask new_masks new_terms are is e =
           (omega arith, omega (arith, grown)));
     }
 
--- longer terms change no mask
-pub kept-longer : (places : List ℕ) (masks : List Kept) (terms : List Term) (new_masks : List Kept) (new_terms : List Term)
-    → AreKept places masks terms → new_masks ≡ masks → length terms ≤ length new_terms → AreKept places new_masks new_terms
-kept-longer places masks terms new_masks new_terms are e longer =
-    subst (λ l. AreKept places l new_terms) (sym e)
-    (record {
-      placed = are.placed;
-      inside = all-weaker (IsInside (length terms)) (IsInside (length new_terms)) (λ k h. (h.0, omega (arith, h.1, longer))) masks are.inside;
-    })
-
 -- a vertex has no mask
 pub left-list : (places : List ℕ) (masks : List Kept) (terms : List Term) (v : ℕ)
     → list_in (set places v 0) masks terms ≡ record { masks = set (map (mask_at masks terms) places) v None; count = length masks }

@@ -1,7 +1,7 @@
 -- The masks of child points, and those that are kept.
-use Rattle.std.proofs.Common.{◌≡◌, ◌≢◌, inl, inr, ◌⊎◌, ℕ, zero, suc, ◌+◌, ◌<◌, ◌≤◌, Bool, true, false, ◌||◌, nat_eq, Option, Some, None, List, [], ◌∷◌, ◌++◌, length, take, get_or, set, replicate, arith, refl, ap, sym, ◌∙◌, subst}
+use Rattle.std.proofs.Common.{◌≡◌, ◌≢◌, inl, inr, ◌⊎◌, ℕ, zero, suc, ◌+◌, ◌<◌, ◌≤◌, Bool, true, false, ◌||◌, nat_eq, Option, Some, None, List, [], ◌∷◌, ◌++◌, length, take, get_or, set, arith, refl, ap, sym, ◌∙◌, subst}
 use Rattle.std.proofs.lemmas.Bool.{eqb-true, eq-eqb}
-use Rattle.std.proofs.lemmas.List.{take_more, length-append, length-replicate}
+use Rattle.std.proofs.lemmas.List.{take_more, length-append}
 use Rattle.std.proofs.lemmas.List.Folds.{list_any-append}
 use Rattle.subdiv_model.specs.Polygons.{polygon_at}
 use Rattle.subdiv_model.specs.Level.{Level}
@@ -149,11 +149,3 @@ added-still den terms old some new added faces dens named = record {
   dens = dens ∙ added.dens;
   named = subst (AreMarked old.named.items terms) (sym named) added.named;
 }
-
--- nothing is kept yet
-pub none-kept : (parent : Topology) (scheme : Scheme) (kept : KeptList) → kept ≡ record { masks = replicate parent.level.point_count None; count = 0 } → AreKeptFor parent scheme [] kept
-none-kept parent scheme kept e = subst (AreKeptFor parent scheme []) (sym e) (record {
-  counted = length-replicate parent.level.point_count None;
-  few = omega arith;
-  each = λ v has. absurd (cc);
-})

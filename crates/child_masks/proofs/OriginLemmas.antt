@@ -21,10 +21,6 @@ any-at p [] i d h e = absurd (omega arith)
 any-at p (x ∷ xs) zero d h e = grind (arith, nat_tests, e)
 any-at p (x ∷ xs) (suc i) d h e = let rest = any-at p xs i d (omega arith) e in grind (arith, nat_tests, rest)
 
--- a point comes from its origin
-pub has-own : (origins : List PointOrigin) (origin : PointOrigin) (p : ℕ) → p < length origins → origin_at origins p ≡ origin → has_origin origins origin ≡ true
-has-own origins origin p inside from = any-at (same_origin origin) origins p (FromVertex 0) inside (ap (same_origin origin) from ∙ same_origin-refl origin)
-
 -- a face has corners
 pub some-corners : (parent : Topology) → IsTopology parent → (f : ℕ) → f < length parent.level.polygons → 0 < length (polygon_at parent.level.polygons f)
 some-corners parent is f inside =

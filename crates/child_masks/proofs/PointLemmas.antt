@@ -1,5 +1,5 @@
 -- A survey with one child point more.
-use Rattle.std.proofs.Common.{◌≡◌, ℕ, ◌+◌, ◌<◌, ◌⊎◌, inl, inr, Bool, true, false, ◌||◌, List, [], ◌∷◌, ◌++◌, length, map, take, get_or, refl, ap, sym, ◌∙◌, subst, Result, Ok, Err, MatchResult}
+use Rattle.std.proofs.Common.{◌≡◌, ℕ, ◌+◌, ◌<◌, ◌⊎◌, inl, inr, Bool, true, false, ◌||◌, List, [], ◌∷◌, ◌++◌, length, map, take, get_or, refl, ap, sym, ◌∙◌, subst}
 use Rattle.std.specs.List.{All, list_any}
 use Rattle.std.proofs.lemmas.List.{take_more, map-append}
 use Rattle.std.proofs.lemmas.List.Elements.{All-append, All-from_recursion}
@@ -121,9 +121,3 @@ no-vertex-edge level scheme e w h = cc
 -- nor has that of a face
 pub no-vertex-face : (level : Level) (scheme : Scheme) (f w : ℕ) → FromFace f ≡ FromVertex w → transition_overflows_at level scheme w ≡ false
 no-vertex-face level scheme f w h = cc
-
--- weaker claims hold for both outcomes
-pub outcome-weaker : {E : Type 0} (r : Result (Unit {0}) E) (P Q : Type 0) (R S : E → Type 0) → (P → Q) → ((e : E) → R e → S e)
-    → MatchResult r (λ _. P) R → MatchResult r (λ _. Q) S
-outcome-weaker (Ok x) P Q R S f g h = f h
-outcome-weaker (Err e) P Q R S f g h = g e h

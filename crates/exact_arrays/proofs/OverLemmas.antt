@@ -6,13 +6,10 @@ use Rattle.std.proofs.lemmas.Nat.Gcd.{mod-eq-zero_of_dvd}
 use Rattle.std.proofs.Math.Nat.{mul_assoc, mul_comm, dvd-mul_left, eq_of_mul-eq-mul_right}
 use Rattle.nearest_float.specs.Binary.{Format, unit_bits, value_of}
 use Rattle.nearest_float.specs.Exact.{IsExact}
-use Rattle.nearest_float.specs.Faults.{IsRefused}
-use Rattle.nearest_float.specs.declared.fault.FloatFault.{FloatFault}
-use Rattle.nearest_float.specs.declared.fault.FloatFault.TheVariants.{NotFinite, TooWide}
 use Rattle.nearest_float.proofs.DistanceLemmas.{neg-times}
 use Rattle.nearest_float.proofs.TermLemmas.{coprime-divides}
 use Rattle.std.proofs.lemmas.Bool.{le-ltb}
-use Rattle.exact_arrays.specs.Scale.{IsPowerOfTwo, IsOver, IsNumerator, HasNumerator, HasFraction}
+use Rattle.exact_arrays.specs.Scale.{IsPowerOfTwo, IsOver, IsNumerator, HasNumerator}
 use Rattle.exact_arrays.specs.ScaleFaults.{IsLarge}
 use Rattle.exact_arrays.proofs.PowerLemmas.{power-divisor}
 
@@ -68,12 +65,6 @@ pub den-power : (f : Format) (b den : ℕ) (num : ℤ) → IsExact f b num den �
 den-power f b den num exact =
     power-divisor (unit_bits f) den
     (den-divides f b den (2 ^ unit_bits f) num exact (pow_pos (unit_bits f)) (record { numerator = value_of f b; over = record { same = refl } }))
-
--- bits that have a fraction are not refused
-pub not-refused : (f : Format) (b : ℕ) (fault : FloatFault) → HasFraction f b → IsRefused f b fault → ⊥
-not-refused f b NotFinite has refused = refused has.exact.finite
-not-refused f b TooWide has refused =
-    refused.none has.num has.den has.exact.terms.positive has.exact.terms.same has.exact.terms.num_fits has.exact.terms.den_fits
 
 signed-times : (num : ℤ) (q : ℕ) → (if (int_lt num (pos 0)) then (neg_ℤ (pos (unsigned_abs num * q))) else (pos (unsigned_abs num * q))) ≡ num *ℤ pos q
 signed-times (pos n) q = ap (λ b. if b then (neg_ℤ (pos (n * q))) else (pos (n * q))) (le-ltb n 0 (omega arith))

@@ -8,7 +8,7 @@ use Rattle.flat_arrays.specs.declared.wide.Wide.{Wide}
 use Rattle.flat_arrays.specs.Words.{integer_of}
 use Rattle.nearest_float.specs.Binary.{Format}
 use Rattle.exact_arrays.specs.Scale.{IsNumerator}
-use Rattle.exact_arrays.specs.ScaleFaults.{IsSmall, IsLarge, IsFirstLarge}
+use Rattle.exact_arrays.specs.ScaleFaults.{IsSmall}
 
 -- Each written numerator satisfies R.
 pub zip-push : (R : ℕ → ℤ → Type 0) (bs : List ℕ) (b : ℕ) (ws : List Wide) (w : Wide) → AllZip R bs (map integer_of ws) → R b (integer_of w) →
@@ -44,7 +44,3 @@ pub put-all : (f : Format) (s : ℕ) (bs : List ℕ) (i : ℕ) (ws : List Wide) 
 put-all f s bs i ws all none so-far =
     subst (λ cs. AllZip (IsNumerator f s) cs (map integer_of ws)) (take_all i bs all)
     (subst (λ vs. AllZip (IsNumerator f s) (take i bs) (map integer_of vs)) (take_all i ws none) so-far.numerators_of)
-
-pub large-first : (f : Format) (s : ℕ) (bs : List ℕ) (i : ℕ) (ws : List Wide) → i < length bs → ArePut f s (take i bs) ws → IsLarge f s (get_or bs i 0) →
-    IsFirstLarge f bs s i
-large-first f s bs i ws inside so-far large = record { inside = inside; large = large; before = so-far.small }

@@ -4,8 +4,6 @@ use Rattle.level_arrays.specs.Places as level
 use Rattle.level_arrays.specs.declared.counts.LevelCounts.{LevelCounts}
 use Rattle.level_arrays.specs.declared.places.LevelPlaces.{LevelPlaces}
 use Rattle.mesh_arrays.specs.Written as mesh
-use Rattle.mesh_arrays.specs.declared.places.MeshCounts.{MeshCounts}
-use Rattle.mesh_arrays.specs.declared.places.MeshPlaces.{MeshPlaces}
 use Rattle.table_arrays.specs.Places as table
 use Rattle.table_arrays.specs.declared.places.TableCounts.{TableCounts}
 use Rattle.table_arrays.specs.declared.places.ExactPlaces.{ExactPlaces}
@@ -14,10 +12,6 @@ use Rattle.table_arrays.specs.declared.places.FloatPlaces.{FloatPlaces}
 
 pub level-kept : (counts : LevelCounts) (places : LevelPlaces) → level.IsRestKept counts places places
 level-kept counts places = record { face_sizes = refl; corners = refl; edges = refl; holes = refl }
-
-pub mesh-kept : (counts : MeshCounts) (places : MeshPlaces) → mesh.IsRestKept counts places places
-mesh-kept counts places =
-    record { points = refl; texture = refl; sizes = refl; corners = refl; texture_corners = refl; creases = refl; corner_tags = refl; holes = refl }
 
 pub exact-kept : (counts : TableCounts) (places : ExactPlaces) → table.IsExactRestKept counts places places
 exact-kept counts places = record { rows = record { starts_rest = refl; indices_rest = refl }; numerators = refl; denominators = refl }

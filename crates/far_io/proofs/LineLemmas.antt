@@ -45,32 +45,6 @@ cause-later start old new (Ok found) later h = tt
 cause-later start old new (Err e) later h = rose-later start old new later h
 
 module _ {S : Type 0} {source : Ghosts S} where
-  -- where nothing came
-  pub at-first : (a : LineInput) (s : S) → HasNoLf a.pending → a.line ≡ [] → ReadsOn source a a s s
-  at-first a s plain line = record {
-    bytes = [];
-    took = Took-none (source.left s);
-    kept = sym (append-nil a.pending);
-    plain = plain;
-    line = line;
-    counted = omega arith;
-    later = omega arith;
-    room = refl;
-  }
-
-  -- bytes came, and then more
-  pub on-on : {a b c : LineInput} {s t u : S} → ReadsOn source a b s t → ReadsOn source b c t u → ReadsOn source a c s u
-  on-on {a} {b} {c} {s} {t} {u} p q = record {
-    bytes = p.bytes ++ q.bytes;
-    took = Took-more (source.left s) (source.left t) (source.left u) p.bytes q.bytes p.took q.took;
-    kept = q.kept ∙ sym (joined a.pending b.pending p.bytes q.bytes p.kept);
-    plain = q.plain;
-    line = q.line;
-    counted = omega (arith, p.counted, q.counted, length-append p.bytes q.bytes);
-    later = omega (arith, p.later, q.later);
-    room = q.room ∙ p.room;
-  }
-
   -- bytes came, and then the end of the line
   pub on-line : {a b c : LineInput} {s t u : S} {r : Result NextLine ReadFailed} → ReadsOn source a b s t → ReadsLine source b c t u r →
       ReadsLine source a c s u r

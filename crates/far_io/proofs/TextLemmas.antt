@@ -15,7 +15,7 @@ use Rattle.far_io.specs.declared.text.NextText.{NextText}
 use Rattle.far_io.specs.declared.text.NextText.TheVariants.{Closed, Last, End}
 use Rattle.far_io.proofs.BytesLemmas.{Took-more}
 use Rattle.far_io.proofs.LfLemmas.{has-none, found-at, lf-at}
-use Rattle.far_io.proofs.LineLemmas.{Took-none, rose-later, joined}
+use Rattle.far_io.proofs.LineLemmas.{rose-later, joined}
 
 -- The bytes before a place are those before the line, the line, and its end.
 pub before-place : {bytes : List ℕ} {start size from searched : ℕ} → IsTextPlaced bytes start size from searched →
@@ -102,29 +102,6 @@ counted-later a b c bytes more (Err Long) h k = (omega (arith, h, k.0, length-ap
 counted-later a b c bytes more (Err Memory) h k = omega (arith, h, k, length-append bytes more)
 
 module _ {S : Type 0} {source : Ghosts S} where
-  -- Before the first read nothing came, and all passed bytes were passed earlier.
-  pub text-at-first : (a b : TextInput) (s : S) → b.pending ≡ a.pending → HasNoLf b.pending → IsBetweenLines b → b.before ≡ passed a → b.allowed ≡ a.allowed →
-      ReadsOnText source a b s s
-  text-at-first a b s same plain between before allowed = record {
-    bytes = [];
-    took = Took-none (source.left s);
-    kept = (append-nil a.pending ∙ sym same, plain, between);
-    counted = omega (arith, allowed);
-    before = before;
-    later = omega arith;
-  }
-
-  -- bytes came, and then more
-  pub text-on-on : {a b c : TextInput} {s t u : S} → ReadsOnText source a b s t → ReadsOnText source b c t u → ReadsOnText source a c s u
-  text-on-on {a} {b} {c} {s} {t} {u} p q = record {
-    bytes = p.bytes ++ q.bytes;
-    took = Took-more (source.left s) (source.left t) (source.left u) p.bytes q.bytes p.took q.took;
-    kept = pending-later a.pending b.pending c p.bytes q.bytes (source.left u) (sym p.kept.0) q.bytes q.kept;
-    counted = omega (arith, p.counted, q.counted, length-append p.bytes q.bytes);
-    before = q.before ∙ sym (passed-between b p.kept.2) ∙ p.before;
-    later = omega (arith, p.later, q.later);
-  }
-
   -- bytes came, and then the end of the line
   pub text-on-line : {a b c : TextInput} {s t u : S} {r : Result NextText InputFault} → ReadsOnText source a b s t → ReadsText source b c t u r →
       ReadsText source a c s u r

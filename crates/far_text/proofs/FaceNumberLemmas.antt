@@ -28,10 +28,6 @@ module _ {X : Type 0} (p : X → Bool) where
       ap (λ b. cond b (Some x) (find p xs)) (fails zero (omega arith))
       ∙ find-none xs d (λ k h. fails (suc k) (omega (arith, h)))
 
--- the meaning of a test on two numbers
-not-le : (a b : ℕ) → b < a → nat_le a b ≡ false
-not-le a b h = grind (arith, nat_tests)
-
 not-eq : (a b : ℕ) → b < a → nat_eq a b ≡ false
 not-eq a b h = grind (arith, nat_tests)
 
@@ -48,9 +44,6 @@ false-le : (a b : ℕ) → nat_le a b ≡ false → b < a
 false-le a b h = grind (arith, nat_tests)
 
 module _ (level : WrittenLevel) where
-  number_at : ℕ → ℕ
-  number_at k = (face_at level k).number
-
   -- the place of a number is inside, or at the end
   pub place-within : (number : ℕ) → place_in level number ≤ length level.faces
   place-within number = prefix_len-le-length (λ face. not (nat_le number face.number)) level.faces

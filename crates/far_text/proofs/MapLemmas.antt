@@ -1,14 +1,11 @@
 -- The lines of a map.
-use Rattle.std.proofs.Common.{◌≡◌, ℕ, List, [], ◌∷◌, ◌++◌, codes, map, zip, append_assoc, refl, ap, sym, ◌∙◌}
-use Rattle.std.specs.List.{flat_map}
+use Rattle.std.proofs.Common.{◌≡◌, ℕ, [], ◌∷◌, ◌++◌, codes, append_assoc, ap, sym, ◌∙◌}
 use Rattle.subdiv_model.specs.Fractions.{lowest}
 use Rattle.subdiv_model.specs.NumberText.{number_text, ratio_text}
 use Rattle.subdiv_model.specs.Text.{line_text}
-use Rattle.subdiv_model.specs.Leaf.{Location, grid_pairs, leaf_line}
-use Rattle.patch_map.specs.View.{location_of}
+use Rattle.subdiv_model.specs.Leaf.{Location, leaf_line}
 use Rattle.far_text.specs.CountLines.{count_words}
-use Rattle.far_text.specs.MapLines.{leaf_words, map_lines, placed_leaf_line, position_words}
-use Rattle.far_text.specs.declared.map.MapLeaves.{MapLeaves}
+use Rattle.far_text.specs.MapLines.{leaf_words, position_words}
 use Rattle.far_text.proofs.LineLemmas.{ended-words}
 
 -- no place
@@ -34,16 +31,3 @@ leaf-line-by-words grid place leaf =
     append_assoc (count_words (codes "p") place.0) (32 ∷ number_text place.1) (line_text [] (leaf_words grid leaf))
     ∙ ap (λ rest. count_words (codes "p") place.0 ++ ((32 ∷ number_text place.1) ++ rest)) (sym (ended-words (leaf_words grid leaf)))
     ∙ ap (λ rest. codes "p" ++ rest) (ended-words (number_text place.0 ∷ number_text place.1 ∷ leaf_words grid leaf))
-
--- the lines of pairs with their leaves
-each-pair : (grid : ℕ) (leaf : ℕ × ℕ → Location) (pairs : List (ℕ × ℕ)) →
-    flat_map (placed_leaf_line grid) (zip pairs (map leaf pairs)) ≡ flat_map (λ pair. leaf_line grid pair (leaf pair)) pairs
-each-pair grid leaf [] = refl
-each-pair grid leaf (pair ∷ pairs) = ap (λ rest. leaf_line grid pair (leaf pair) ++ rest) (each-pair grid leaf pairs)
-
--- if the leaves are those of the grid's pairs, the text is the definition's
-pub map-text : (leaves : MapLeaves) (leaf : ℕ × ℕ → Location) → map location_of leaves.leaves.items ≡ map leaf (grid_pairs leaves.grid)
-    → map_lines leaves ≡ flat_map (λ pair. leaf_line leaves.grid pair (leaf pair)) (grid_pairs leaves.grid)
-map-text leaves leaf is =
-    ap (λ locations. flat_map (placed_leaf_line leaves.grid) (zip (grid_pairs leaves.grid) locations)) is
-    ∙ each-pair leaves.grid leaf (grid_pairs leaves.grid)

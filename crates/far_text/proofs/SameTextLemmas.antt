@@ -10,8 +10,8 @@ use Rattle.subdiv_model.specs.Refined.{Point}
 use Rattle.subdiv_model.specs.NumberText.{number_text, value_text, value_text_with}
 use Rattle.subdiv_model.specs.Text.{face_line, line_text, point_line, shown, mesh_text}
 use Rattle.number_laws.proofs.TextLemmas.{fraction_text-same}
-use Rattle.far_text.specs.Frames.{changed_line, valued_changed_line}
-use Rattle.far_text.specs.Points.{CanBeWritten, IsSamePoint, HasDenominators, point_of, points_of}
+use Rattle.far_text.specs.Frames.{changed_line}
+use Rattle.far_text.specs.Points.{CanBeWritten, IsSamePoint, HasDenominators, points_of}
 use Rattle.far_text.proofs.RoundingLemmas.{rounded_text-same}
 
 -- in lowest terms, and rounded
@@ -34,12 +34,6 @@ changed-same number p q above below same =
     ap (λ t. words t (value_text p.1) (value_text p.2)) (value-same None p.0 q.0 above.x below.x same.x)
     ∙ ap (λ t. words (value_text q.0) t (value_text p.2)) (value-same None p.1 q.1 above.y below.y same.y)
     ∙ ap (λ t. words (value_text q.0) (value_text q.1) t) (value-same None p.2 q.2 above.z below.z same.z)
-
--- the line of a point that can be written and is the definition's point in other terms
-pub valued-changed-same : (common number : ℕ) (p : Valued Point3) (q : Point) → CanBeWritten common p → HasDenominators q → IsSamePoint (point_of common p) q →
-    valued_changed_line common number p ≡ changed_line number q
-valued-changed-same common number p q written below same =
-    changed-same number (point_of common p) q (record { x = written.positive; y = written.positive; z = written.positive }) below same
 
 -- point by point
 pub points-same : (decimals : Option ℕ) (ps qs : List Point) → AllByRecursion HasDenominators ps → AllByRecursion HasDenominators qs → AllZip IsSamePoint ps qs →

@@ -1,5 +1,5 @@
 -- The lines of sparse levels with their texture.
-use Rattle.std.proofs.Common.{◌≡◌, ℕ, zero, suc, ◌+◌, ◌<◌, ◌≤◌, List, [], ◌∷◌, ◌++◌, length, map, zip, take, take_all, get_or, Option, Some, None, codes, arith, refl, ap, sym, ◌∙◌, IfSome, subst}
+use Rattle.std.proofs.Common.{◌≡◌, ℕ, zero, suc, ◌+◌, ◌<◌, ◌≤◌, List, [], ◌∷◌, ◌++◌, length, map, zip, take, take_all, get_or, Option, Some, None, codes, arith, refl, ap, sym, ◌∙◌, subst}
 use Rattle.std.specs.List.{All, AllZip, flat_map, range_with_len, enumerate_from}
 use Rattle.std.proofs.lemmas.List.{get_or-map, length-map}
 use Rattle.std.proofs.lemmas.List.Elements.{recursion_from_All}
@@ -22,13 +22,13 @@ use Rattle.far_text.specs.Lines.{corner_word, textured_word, valued_line, valued
 use Rattle.far_text.specs.Points.{HasDenominators, point_of, points_of}
 use Rattle.far_text.specs.SparseLines.{level_over}
 use Rattle.far_text.specs.Texture.{HasTextureDenominators, IsSameTexturePoint, texture_point_of, texture_points_of}
-use Rattle.far_text.specs.TexturedLines.{AreFacesAlike, CanLevelBePut, CanTexturedBePut, level_parts, numbered_parts, points_part_over, spaced, sparse_line_with, texture_part_over, textured_text}
+use Rattle.far_text.specs.TexturedLines.{CanLevelBePut, CanTexturedBePut, level_parts, numbered_parts, points_part_over, spaced, sparse_line_with, texture_part_over, textured_text}
 use Rattle.far_text.specs.declared.textured_sparse.TexturedSparse.{TexturedSparse}
 use Rattle.far_text.proofs.LineLemmas.{ended-words}
 use Rattle.far_text.proofs.ListLemmas.{pair-at, zip-long}
 use Rattle.far_text.proofs.SameTextLemmas.{points-same}
 use Rattle.far_text.proofs.SameTextureLemmas.{texture-same}
-use Rattle.far_text.proofs.SparseLemmas.{AreSameLevels, defined_level, no_face}
+use Rattle.far_text.proofs.SparseLemmas.{AreSameLevels, defined_level}
 
 -- the corners, by themselves and with texture points
 pub plain-words : (corners : Polygon) → flat_map corner_word corners ≡ spaced (corner_words corners None)
@@ -80,21 +80,10 @@ textured-level-by-parts decimals k common over level texture points texture_poin
     ∙ ap (λ values. first ++ (flat_map (point_line decimals) (points_of common values) ++ (flat_map (texture_line decimals) (texture_points_of over texture_points) ++ faces))) is
     ∙ ap (λ values. first ++ (flat_map (point_line decimals) (points_of common level.values.items) ++ (flat_map (texture_line decimals) (texture_points_of over values) ++ faces))) texture_is
 
--- a face of the level and of the texture has as many corners in both
-pub alike-at : (level texture : WrittenLevel) (found : Option Polygon) (f : ℕ) → AreFacesAlike level texture → f < length level.faces
-    → found ≡ corners_of_face texture (face_at level f).number → IfSome found (λ points. length points ≡ length (face_at level f).corners)
-alike-at level texture found f are within is =
-    subst (λ o. IfSome o (λ points. length points ≡ length (face_at level f).corners)) (sym is) (are.alike f no_face within)
-
 -- the line of a face whose texture points are found
 pub line-found : (level texture : WrittenLevel) (found : Option Polygon) (f : ℕ) → found ≡ corners_of_face texture (face_at level f).number
     → sparse_line_with (face_at level f) found ≡ textured_sparse_line texture (face_at level f)
 line-found level texture found f is = ap (sparse_line_with (face_at level f)) is
-
--- the lines of all faces
-pub all-textured-faces : (texture : WrittenLevel) (faces : List WrittenFace) (f : ℕ) → length faces ≤ f →
-    flat_map (textured_sparse_line texture) (take f faces) ≡ flat_map (textured_sparse_line texture) faces
-all-textured-faces texture faces f past = ap (flat_map (textured_sparse_line texture)) (take_all f faces past)
 
 -- no level
 abbrev pub no_parts : ℕ × (SparsePart Point × SparsePart (Value × Value))

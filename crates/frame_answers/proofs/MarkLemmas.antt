@@ -1,13 +1,12 @@
 -- The marks of rows: before any move, after one more, and after the last is gone.
 use Rattle.std.proofs.Common.{◌≡◌, ℕ, ◌+◌, Bool, true, false, cond, nat_eq, ◌||◌, List, [], ◌∷◌, ◌++◌, length, map, replicate, arith, refl, ap, sym, ◌∙◌, if◌then◌else◌}
-use Rattle.std.specs.List.{list_any, count_by, sum_by}
+use Rattle.std.specs.List.{list_any, count_by}
 use Rattle.std.proofs.lemmas.Bool.Decides.{nat_tests}
-use Rattle.std.proofs.lemmas.List.{length-map}
 use Rattle.std.proofs.lemmas.List.Folds.{list_any-append}
 use Rattle.std.proofs.lemmas.List.Sums.{sum_by-cons}
 use Rattle.subdiv_model.specs.Lists.{places_from}
 use Rattle.subdiv_model.specs.Polygons.{is_among}
-use Rattle.stencil_apply.specs.Table.{Share, Row, entries_of}
+use Rattle.stencil_apply.specs.Table.{Share, Row}
 use Rattle.stencil_factory.specs.Rows.{support_of}
 use Rattle.stencil_session.specs.Session.{has_control, mark_rows}
 
@@ -80,15 +79,3 @@ rows-count control first (row ∷ rows) =
     one true false same behind = absurd (cc)
     one false true same behind = absurd (cc)
     one false false same behind = omega (arith, behind)
-
--- the number of entries
-pub entries-count : (rows : List Row) → entries_of rows ≡ sum_by length (supports rows)
-entries-count [] = refl
-entries-count (row ∷ rows) =
-    omega (
-      arith,
-      sum_by-cons (λ (r : Row). length r.shares) row rows,
-      sum_by-cons (λ (xs : List ℕ). length xs) (support_of row.shares) (supports rows),
-      length-map row.shares (λ (share : Share). share.0),
-      entries-count rows,
-    )

@@ -24,7 +24,7 @@ use Rattle.sharpness_laws.proofs.MaskOrderLemmas.{same_weights-refl, same-terms,
 use Rattle.level_topology.specs.Topology.{Topology, IsTopology, edge_at, edge_numbers_at}
 use Rattle.level_topology.proofs.LawLemmas.{own-number}
 use Rattle.level_topology.proofs.PlaceLemmas.{filter-item}
-use Rattle.mask_rules.specs.Around.{end_of_edge, ends_in, faces_in, ring_in}
+use Rattle.mask_rules.specs.Around.{end_of_edge, ends_in, faces_in}
 use Rattle.mask_rules.proofs.AroundLemmas.{map-same}
 use Rattle.limit_stencils.specs.declared.lasting.LastingRule.TheVariants.{Corner}
 use Rattle.limit_stencils.specs.AtVertex.{opposites_in, rule_of_ends, limit_by_rule, limit_in, is_semi_in, IsSameLimit}
@@ -151,9 +151,6 @@ module _ (t : Topology) (v : ℕ) (is : IsTopology t) (inside : v < t.level.poin
   limit-over ends ring =
       limit_of_rule v ends (opposites_at level v) (has_semi_sharp vertex ring)
       (if is_infinite vertex || nat_eq (length ring) 0 then model.CornerRule else rule_of_sharp_edges (places is_infinite ring))
-
-  ring-in : ring_in t v ≡ map kept items
-  ring-in = refl
 
   semi-same : has_semi_sharp vertex (map kept numbers) ≡ is_semi_in t v
   unfolding vertex

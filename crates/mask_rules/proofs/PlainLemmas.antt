@@ -1,10 +1,9 @@
 -- The mask of a plain vertex is that of the smooth rule.
-use Rattle.std.proofs.Common.{◌≡◌, ℕ, ◌+◌, ◌-◌, ◌*◌, ◌<◌, nat_lt, List, [], ◌∷◌, ◌++◌, length, arith, refl, ap, sym, ◌∙◌, subst}
-use Rattle.std.proofs.lemmas.List.Elements.{filter-append}
+use Rattle.std.proofs.Common.{◌≡◌, ℕ, ◌+◌, ◌-◌, ◌*◌, ◌<◌, [], length, arith, refl, ap, sym, ◌∙◌, subst}
 use Rattle.subdiv_model.specs.Rule.{SmoothRule}
-use Rattle.subdiv_model.specs.Mask.{Term, Mask, OfPoint, weigh, weigh_faces}
+use Rattle.subdiv_model.specs.Mask.{Mask}
 use Rattle.level_topology.specs.Topology.{Topology, IsTopology}
-use Rattle.mask_rules.specs.Spread.{end_terms, positive, terms_around, spread_mask}
+use Rattle.mask_rules.specs.Spread.{positive, terms_around, spread_mask}
 use Rattle.mask_rules.specs.Masks.{IsJoinedAs}
 use Rattle.mask_rules.specs.Around.{ends_in, faces_in, mask_in}
 use Rattle.mask_rules.specs.Smooth.{IsSmoothAt}
@@ -27,13 +26,3 @@ plain-joined t v is inside smooth m e =
     let same : m ≡ spread_mask SmoothRule SmoothRule 1 0 (n * n) v ends faces =
     e ∙ ap (λ w. record { terms = positive (terms_around w (λ i. 1) 1 v ends faces); denominator = n * n }) (nothing-added (n * (n - 2))) in
     subst (IsJoinedAs m) (sym (smooth-mask t v smooth)) (one-joined t v is inside SmoothRule (n * n) m refl (omega (arith, smooth.some, ring-long t v)) same)
-
--- the terms added one after another are those around the vertex
-pub put-around : (own : ℕ) (v : ℕ) (ends faces : List ℕ) (first second third : List Term) → first ≡ positive (weigh own (OfPoint v) ∷ [])
-    → second ≡ first ++ positive (end_terms (λ i. 1) 0 ends) → third ≡ second ++ positive (weigh_faces 1 faces)
-    → third ≡ positive (terms_around own (λ i. 1) 1 v ends faces)
-put-around own v ends faces first second third e h k =
-    let terms = end_terms (λ i. 1) 0 ends in
-    let test : Term → _ = λ t. nat_lt 0 t.weight in
-    k ∙ ap (λ l. l ++ positive (weigh_faces 1 faces)) (h ∙ ap (λ l. l ++ positive terms) e ∙ sym (filter-append test (weigh own (OfPoint v) ∷ []) terms))
-    ∙ sym (filter-append test (weigh own (OfPoint v) ∷ terms) (weigh_faces 1 faces))

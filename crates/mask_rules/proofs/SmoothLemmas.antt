@@ -22,12 +22,6 @@ neither false false h = (refl, refl)
 neither true c h = absurd (cc)
 neither false true h = absurd (cc)
 
--- a sharpness that is not sharp is smooth
-pub plain-smooth : (s : Sharpness) → is_sharp s ≡ false → s ≡ Smooth
-plain-smooth Smooth h = refl
-plain-smooth (Semi num den) h = absurd (cc)
-plain-smooth Infinite h = absurd (cc)
-
 -- no place is that of a sharp edge
 no-places : (place : ℕ) (ring : List Sharpness) → list_any is_sharp ring ≡ false → places_from place is_sharp ring ≡ []
 no-places place [] h = refl

@@ -15,18 +15,10 @@ use Rattle.far_fault.specs.declared.fault.FarFault.{FarFault}
 use Rattle.mesh_answers.specs.Refusals.{IsFound, refusal_by, refusal_unless}
 use Rattle.mesh_answers.specs.Levels.{IsLevelWithin, IsSmallManifold}
 
--- a mesh that is not a manifold is refused for its first fault
-pub refusal-of-fault : (faults : List Fault) (mesh : ObjMesh) (fault : MeshFault) → first_mesh_fault (length mesh.points) mesh.faces ≡ Some fault →
-    refusal_by faults mesh ≡ Some (Mesh fault)
-refusal-of-fault faults mesh fault is = ap (λ f. refusal_unless f (first_of (count_faults mesh ++ faults))) is
-
 module _ (mesh : ObjMesh) (manifold : first_mesh_fault (length mesh.points) mesh.faces ≡ None) where
   -- a manifold is refused for the first fault of its counts and of the others
   refusal-of-manifold : (faults : List Fault) → refusal_by faults mesh ≡ first_of (count_faults mesh ++ faults)
   refusal-of-manifold faults = ap (λ f. refusal_unless f (first_of (count_faults mesh ++ faults))) manifold
-
-  pub refusal-of-count : (faults : List Fault) (fault : Fault) → first_of (count_faults mesh) ≡ Some fault → refusal_by faults mesh ≡ Some fault
-  refusal-of-count faults fault is = refusal-of-manifold faults ∙ first-here (count_faults mesh) faults fault is
 
   -- a manifold whose counts are within their limits is refused for the first of the other faults
   pub refusal-of-small : (faults : List Fault) → first_of (count_faults mesh) ≡ None → refusal_by faults mesh ≡ first_of faults

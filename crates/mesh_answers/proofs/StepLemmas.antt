@@ -35,9 +35,6 @@ module _ (mesh : ObjMesh) (options : RefineOptions) where
       let later = later_faces options.depth mesh in
       omega (arith, where-both mesh faces (later + texture_steps options mesh), sum-is faces later (texture_steps options mesh))
 
-  pub base-fits : (old new : ℕ) → new ≤ old + base_limit → new ≤ old + refine_limit options mesh
-  base-fits old new h = omega (arith, h, limit-is)
-
   pub positions-fit : (old middle new : ℕ) → middle ≤ old + base_limit → new ≤ middle + position_limit → new ≤ old + refine_limit options mesh
   positions-fit old middle new g h = omega (arith, g, h, limit-is)
 

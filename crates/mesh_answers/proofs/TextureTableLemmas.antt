@@ -1,5 +1,5 @@
 -- The refusals of a mesh by the call for its texture's table, and the contents of the table.
-use Rattle.std.proofs.Common.{◌≡◌, ℕ, Bool, true, false, cond, List, [], map, Option, Some, Result, Ok, Err, IsOkAnd, MatchResult, Vec, Global, arith, ap, sym, subst, ◌∙◌}
+use Rattle.std.proofs.Common.{◌≡◌, ℕ, Bool, true, cond, List, [], map, Option, Some, Result, Ok, Err, IsOkAnd, MatchResult, Vec, Global, arith, ap, sym, subst, ◌∙◌}
 use Rattle.std.specs.List.{range_with_len}
 use Rattle.subdiv_model.specs.Lists.{first_of}
 use Rattle.subdiv_model.specs.ObjMesh.{ObjMesh}
@@ -27,7 +27,7 @@ use Rattle.far_fault.specs.declared.fault.FarFault.{FarFault}
 use Rattle.mesh_answers.specs.Levels.{IsSmallManifold}
 use Rattle.mesh_answers.specs.Refusals.{IsFound}
 use Rattle.mesh_answers.specs.StepCounts.{later_faces}
-use Rattle.mesh_answers.specs.Textures.{IsTextureComposition, IsTextureTable, IsWithoutTexture, texture_refusal}
+use Rattle.mesh_answers.specs.Textures.{IsTextureComposition, IsTextureTable, texture_refusal}
 use Rattle.mesh_answers.specs.declared.texture_table.ComposedTexture.{ComposedTexture}
 use Rattle.mesh_answers.proofs.CutLemmas.{cut-faces-after}
 use Rattle.mesh_answers.proofs.LevelLemmas.{found-of-walk, steps-of-levels, sum-same}
@@ -41,10 +41,6 @@ module _ (uv : Uv) (depth : ℕ) (mesh : ObjMesh) where
   module _ (fine : IsSmallManifold depth mesh) where
     refusal-is : (textured : Bool) → mesh.has_texture ≡ textured → texture_refusal uv depth mesh ≡ first_of (cond textured faults [])
     refusal-is textured is = refusal-of-others depth mesh fine (cond mesh.has_texture faults []) ∙ ap (λ b. first_of (cond b faults [])) is
-
-    -- a mesh without texture is not refused
-    pub without-texture : mesh.has_texture ≡ false → IsWithoutTexture uv depth mesh
-    without-texture none = record { good = refusal-is false none; untextured = none }
 
     -- a mesh with texture is refused for the first fault of the table
     module _ (textured : mesh.has_texture ≡ true) (base : Channel) (same : base ≡ texture_of mesh uv) where

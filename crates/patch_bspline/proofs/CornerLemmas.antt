@@ -193,9 +193,6 @@ module _ (t : Topology) (is : IsTopology t) (v : ℕ) (inside : v < t.level.poin
       All-permutation (λ f. length (polygon_at faces-of f) ≡ 4) (faces_at t.level v) fan (is.listed v inside).faces
       (λ k d h. eqb-true _ 4 (all-at (is_quad t.level) (faces_at t.level v) k d h regular-parts.2))
 
-  fan-at : ℕ → ℕ
-  fan-at i = get_or fan i 0
-
   ring : IsFan faces-of v fan edges
   ring = (is.listed v inside).fan complete
 

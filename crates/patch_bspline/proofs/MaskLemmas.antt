@@ -160,9 +160,6 @@ flat-length n f each start (suc count) =
     more n count = omega arith
 
 module _ (m : ℕ) where
-  abbrev width : ℕ
-  width = m + 1
-
   abbrev places-in : ℕ → List (ℕ × ℕ)
   places-in j = map (λ i. (i, j)) (range_with_len 0 (m + 1))
 

@@ -8,7 +8,6 @@ use Rattle.subdiv_model.specs.Polygons.{polygon_at, is_among}
 use Rattle.subdiv_model.specs.Level.{Level}
 use Rattle.subdiv_model.specs.Child.{refined_level}
 use Rattle.subdiv_model.specs.Sparse.{Meeting, child_number, selected, present}
-use Rattle.subdiv_model.specs.Leaf.{is_corner_of}
 use Rattle.patch_map.specs.Map.{MapLevel, LevelMap, Rises, first_at, firsts_of, grown, map_level, map_of_base, starts_of}
 use Rattle.patch_map.specs.Is.{IsAfter, IsMapOf, first_in}
 use Rattle.patch_map.proofs.PresentLemmas.{first-up, present-below, present-up, start-after}
@@ -24,11 +23,6 @@ module _ (base : Level) (meeting : Meeting) (depth : ℕ) (levels : LevelMap) (i
 
   pub map-size : (face : ℕ) → face < length base.polygons → get_or levels.sizes face 0 ≡ length (polygon_at base.polygons face)
   map-size face h = ap (λ sizes. get_or sizes face 0) is.sizes ∙ get_or-map length base.polygons face [] 0 h
-
-  -- each place of the definitions is a valid request
-  pub map-fits : (face corner : ℕ) → face < length base.polygons → is_corner_of (length (polygon_at base.polygons face)) corner ≡ true
-      → (face < length levels.sizes) × (is_corner_of (get_or levels.sizes face 0) corner ≡ true)
-  map-fits face corner h fits = (omega (arith, h, map-faces), ap (λ n. is_corner_of n corner) (map-size face h) ∙ fits)
 
   pub starts-many : length levels.starts ≡ length (present base meeting depth)
   starts-many = ap length is.starts ∙ length-map (present base meeting depth) (λ f. child_number (refined_level base depth).polygons (f, 0))

@@ -1,29 +1,17 @@
 -- Lists made item by item, searches for a place, and the descent to a leaf.
 use Rattle.std.proofs.Common.{◌≡◌, ℕ, ◌+◌, ◌^◌, ◌<◌, ◌≤◌, Bool, true, false, nat_le, nat_lt, List, [], ◌∷◌, ◌++◌, length, get_or, map, Option, Some, None, if◌then◌else◌, arith, refl, ap, sym, ◌∙◌, subst}
 use Rattle.std.specs.List.{All, position_or_len, range_with_len}
-use Rattle.std.specs.Option.{option_map_or}
 use Rattle.std.proofs.lemmas.Bool.Decides.{nat_tests}
 use Rattle.std.proofs.Math.Nat.{pow-le-pow_right}
 use Rattle.std.proofs.lemmas.List.FromFn.{map-range_with_len_more}
 use Rattle.std.proofs.lemmas.List.Sums.{position_or_len_is, fails_before_first}
-use Rattle.subdiv_model.specs.Leaf.{Location}
 use Rattle.sparse_level.specs.View.{SparseTopology, IsSparseTopology}
-use Rattle.patch_map.specs.Map.{MapLevel, Rises, first_at}
-use Rattle.patch_map.specs.Found.{corner_in, pair_in, face_at, leaf_below}
+use Rattle.patch_map.specs.Map.{Rises, first_at}
 
 -- one more item, for a range of numbers
 pub more-of-range : {X : Type 0} (made : ℕ → X) (n : ℕ) (now new : List X) (item : X) → now ≡ map made (range_with_len 0 n) → new ≡ now ++ item ∷ [] → item ≡ made n → new ≡ map made (range_with_len 0 (n + 1))
 more-of-range made n now new item so put e =
     put ∙ ap (λ items. items ++ item ∷ []) so ∙ ap (λ x. map made (range_with_len 0 n) ++ x ∷ []) e ∙ sym (map-range_with_len_more made 0 n n (omega arith))
-
--- numbers are below a start up to one place more
-pub still-below : (numbers : List ℕ) (from place start : ℕ) → ((k : ℕ) → from ≤ k → k < place → get_or numbers k 0 < start) → get_or numbers place 0 < start
-    → (k : ℕ) → from ≤ k → k < place + 1 → get_or numbers k 0 < start
-still-below numbers from place start below here k low high = go (nat_lt k place) refl
-  where
-    go : (b : Bool) → nat_lt k place ≡ b → get_or numbers k 0 < start
-    go true e = below k low (grind (arith, nat_tests))
-    go false e = let same : k ≡ place = grind (arith, nat_tests) in omega (arith, here, ap (λ i. get_or numbers i 0) same)
 
 -- the search ends at the first number that is not below the start
 pub place-found : (numbers : List ℕ) (from place start : ℕ) → from ≤ place → place ≤ length numbers → ((k : ℕ) → from ≤ k → k < place → get_or numbers k 0 < start)
@@ -61,19 +49,3 @@ numbers-small t is numbers e = subst (All (λ n. n < 2 ^ 60)) (sym e) (λ k d h.
 pub first-put : (selected : List Bool) (starts numbers : List ℕ) (f place : ℕ) (is_marked : Bool) (first : Option ℕ) → is_marked ≡ get_or selected f false → place ≡ position_or_len (nat_le (get_or starts f 0)) numbers
     → first ≡ (if is_marked then Some place else None) → first ≡ first_at selected starts numbers f
 first-put selected starts numbers f place is_marked first e h is = is ∙ ap (λ b. if b then Some place else None) e ∙ ap (λ p. if get_or selected f false then Some p else None) h
-
--- the descent goes on to a child, or ends
-pub descent-continues : (grid : ℕ) (level : MapLevel) (others : List MapLevel) (quad : Bool) (place : ℕ) (leaf next : Location) (first corner stand : ℕ) (pair : ℕ × ℕ)
-    → get_or level.firsts place None ≡ Some first → corner ≡ corner_in grid quad leaf → stand ≡ first + corner → pair ≡ pair_in grid quad leaf → next ≡ face_at level stand pair
-    → leaf_below grid others true stand next ≡ leaf_below grid (level ∷ others) quad place leaf
-descent-continues grid level others quad place leaf next first corner stand pair some c s p n =
-    let below : ℕ → Location = λ k. leaf_below grid others true (k + corner_in grid quad leaf) (face_at level (k + corner_in grid quad leaf) (pair_in grid quad leaf)) in
-    let where_is : stand ≡ first + corner_in grid quad leaf = s ∙ ap (λ k. first + k) c in
-    ap (leaf_below grid others true stand) (n ∙ ap (face_at level stand) p)
-    ∙ ap (λ k. leaf_below grid others true k (face_at level k (pair_in grid quad leaf))) where_is
-    ∙ sym (ap (λ o. option_map_or below o leaf) some)
-
-pub descent-ends : (grid : ℕ) (level : MapLevel) (others : List MapLevel) (quad : Bool) (place : ℕ) (leaf : Location) → get_or level.firsts place None ≡ None → leaf ≡ leaf_below grid (level ∷ others) quad place leaf
-descent-ends grid level others quad place leaf none =
-    let below : ℕ → Location = λ k. leaf_below grid others true (k + corner_in grid quad leaf) (face_at level (k + corner_in grid quad leaf) (pair_in grid quad leaf)) in
-    sym (ap (λ o. option_map_or below o leaf) none)

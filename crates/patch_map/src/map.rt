@@ -2,7 +2,7 @@
 
 ghost use Rattle.std.specs.Prelude.{◌≡◌, ℕ, suc, ◌^◌, ◌<◌, ◌≤◌, true, length, map, get_or, IfOk, OnErr};
 ghost use Rattle.std.specs.List.{All, range_with_len};
-ghost use Rattle.subdiv_model.specs.Level.{Level};
+ghost use Rattle.subdiv_model.specs.Level as model;
 ghost use Rattle.subdiv_model.specs.Sparse.{Meeting};
 ghost use Rattle.subdiv_model.specs.Leaf.{base_location, is_corner_of, leaf_of};
 ghost use Rattle.leaf_laws.specs.FirstLeaf.{IsInGrid};
@@ -115,8 +115,8 @@ impl PatchMap {
     /// Error: `Memory`; the map is unchanged then.
     pub fn grow(&mut self, sparse: &SparseLevel, step: &SparseStep) -> Result<(), Memory>
         ensures map { Rises self.old.starts → IfOk result (λ _. self.new ≡ grown self.old step.now.selected step.now.depth step.now.numbers) }
-        ensures is { (base : Level) (meets : Meeting) → IsMapOf base meets sparse.now.depth self.old → IsStepOf base meets sparse.now step.now
-            → IfOk result (λ _. IsMapOf base meets step.now.depth self.new) }
+        ensures is { (base : model.Level) (meeting : Meeting) → IsMapOf base meeting sparse.now.depth self.old → IsStepOf base meeting sparse.now step.now
+            → IfOk result (λ _. IsMapOf base meeting step.now.depth self.new) }
         ensures failed { OnErr result (self.new ≡ self.old) }
     {
         sparse.facts();
@@ -163,7 +163,7 @@ impl PatchMap {
         requires i { i ≤ grid }
         requires j { j ≤ grid }
         ensures leaf { location_of result ≡ leaf_in self.now grid (base_location face corner (i, j)) }
-        ensures is { (base : Level) (meeting : Meeting) (depth : ℕ) → IsMapOf base meeting depth self.now
+        ensures is { (base : model.Level) (meeting : Meeting) (depth : ℕ) → IsMapOf base meeting depth self.now
             → location_of result ≡ leaf_of grid depth base meeting (base_location face corner (i, j)) }
     {
         let at = Leaf {

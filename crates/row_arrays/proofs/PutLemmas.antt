@@ -39,10 +39,6 @@ split-at f a zero (suc n) j e h =
 split-at f a (suc k) (suc n) j e h =
     let later = split-at f (a + 1) k n j (omega (arith, e)) (omega (arith, h)) in (later.0, ap (λ xs. f a ∷ xs) later.1)
 
-none-there : (f : ℕ → Option ℤ) (a n : ℕ) → ((c : ℕ) → f c ≡ None) → some_prefix (map f (range_with_len a n)) ≡ []
-none-there f a zero none = refl
-none-there f a (suc n) none = ap (λ o. some_prefix (o ∷ map f (range_with_len (a + 1) n))) (none a)
-
 -- the first numbers are written, and the other places stay
 pub put-first : (numbers : List ℤ) (k : ℕ) (old new : List Wide) → numbers ≡ map integer_of (take k new) → k ≤ length new → drop k new ≡ drop k old →
     ArePut numbers old new
@@ -51,12 +47,6 @@ put-first numbers k old new is inside rest =
       written = ap (λ i. map integer_of (take i new)) (sym count) ∙ sym is;
       rest = subst (λ i. drop i new ≡ drop i old) count rest;
     }
-
-pub put-none : (old : List Wide) → ArePut [] old old
-put-none old = record { written = refl; rest = refl }
-
-pub put-same : (numbers others : List ℤ) (old new : List Wide) → numbers ≡ others → ArePut others old new → ArePut numbers old new
-put-same numbers others old new e put = subst (λ xs. ArePut xs old new) (sym e) put
 
 -- one sum more
 pub sums-more : (f : ℕ → Option ℤ) (k : ℕ) (old new : List Wide) (sum : ℤ) → map integer_of (take (k + 1) new) ≡ map integer_of (take k old) ++ sum ∷ [] →
@@ -71,17 +61,9 @@ abbrev pub fault_by : ℕ → Bool → Bool → Option RowFault
 fault_by row within all = if within then (if all then None else (Some (Overflow row))) else (Some (Row row))
 
 module _ (rows : RowArrays) (controls : ControlArrays) (row : ℕ) where
-  -- a row that is not within the arrays has no sum
-  pub outside-fault : is_within rows controls row ≡ false → row_fault rows controls row ≡ Some (Row row)
-  outside-fault e = ap (λ within. fault_by row within (list_all is_some (row_sums rows controls row))) e
-
   pub no-sum : is_within rows controls row ≡ false → (c : ℕ) → row_sum rows controls row c ≡ None
   no-sum e c =
       ap (λ within. if within then (sum_of (map (product_at rows controls c) (range_with_len (row_start rows row) (row_end rows row - row_start rows row)))) else None) e
-
-  pub outside-put : (old : List Wide) → is_within rows controls row ≡ false → ArePut (some_prefix (row_sums rows controls row)) old old
-  outside-put old e =
-      put-same (some_prefix (row_sums rows controls row)) [] old old (none-there (row_sum rows controls row) 0 controls.components (no-sum e)) (put-none old)
 
   -- all its sums are written
   module _ (k : ℕ) (old new : List Wide) (low : controls.components ≤ k) (high : k ≤ controls.components)

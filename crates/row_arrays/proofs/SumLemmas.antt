@@ -32,11 +32,6 @@ module _ (f : ℕ → ℤ) (e n : ℕ) (s : ℤ) (whole : Option ℤ) where
       sym (none-stays (map f (range_with_len (e + 1) (n - (e + 1)))))
       ∙ ap (λ o. fold plus o (map f (range_with_len (e + 1) (n - (e + 1))))) step ∙ split h so-far
 
-  pub sum-all : n ≤ e → fold plus (Some s) (map f (range_with_len e (n - e))) ≡ whole → Some s ≡ whole
-  sum-all h so-far =
-      let none : 0 ≡ n - e = omega (arith, h) in
-      ap (λ k. fold plus (Some s) (map f (range_with_len e k))) none ∙ so-far
-
 -- an item within a part that passes a test as a whole passes it
 pub part-passes : (test : ℕ → Bool) (xs : List ℕ) (from to i : ℕ) → from ≤ i → i < to → to ≤ length xs → list_all test (slice_range xs from to) ≡ true →
     test (get_or xs i 0) ≡ true

@@ -12,9 +12,6 @@ zero-right n = omega arith
 shift : (n m : ℕ) → suc n + m ≡ n + suc m
 shift n m = omega arith
 
-zero-left : (n : ℕ) → 0 + n ≡ n
-zero-left n = omega arith
-
 -- one more level
 valued-push : (controls : List (List ℤ)) (first : List ℕ) (j : ℕ) (levels : List (KeptLevel Table)) (level : KeptLevel Table)
     → valued_from controls first j (levels ++ level ∷ []) ≡ valued_from controls first j levels ++ valued controls (kept_order first (j + length levels) level) level ∷ []

@@ -1,27 +1,19 @@
 -- The table of the numbers of points, and the numbers that replace the points.
-use Rattle.std.proofs.Common.{◌≡◌, ◌≢◌, ℕ, suc, ◌+◌, ◌-◌, ◌<◌, ◌≤◌, ◌^◌, Bool, true, false, nat_eq, cond, List, [], ◌∷◌, ◌++◌, length, get_or, take, drop, slice_set, subst, arith, refl, ap, sym, ◌∙◌}
+use Rattle.std.proofs.Common.{◌≡◌, ℕ, suc, ◌+◌, ◌-◌, ◌<◌, ◌≤◌, ◌^◌, Bool, true, false, nat_eq, cond, List, [], ◌∷◌, ◌++◌, length, get_or, take, drop, slice_set, subst, arith, refl, ap, sym, ◌∙◌}
 use Rattle.std.specs.Int.{from_bool}
 use Rattle.std.specs.List.{position_or_len}
 use Rattle.std.proofs.Math.Seq.{drop-cons, set-append_seam}
-use Rattle.std.proofs.lemmas.List.{append-nil, append_assoc, get_or-append_right, take_more, take_all, drop_all, length-take-le, length-append, take-append-drop}
+use Rattle.std.proofs.lemmas.List.{append-nil, append_assoc, get_or-append_right, take_more, take_all, drop_all, length-take-le}
 use Rattle.subdiv_model.specs.Lists.{each_once_by}
 use Rattle.level_topology.specs.ChildTables.{IsInverse}
 use Rattle.level_topology.proofs.ChildTableLemmas.{inverse-more}
-use Rattle.child_slots.proofs.SlotTableLemmas.{entry-of, entry-none, entry-some, none-number}
+use Rattle.child_slots.proofs.SlotTableLemmas.{entry-none, none-number}
 use Rattle.sparse_level.specs.Places.{with_point, with_points}
 use Rattle.sparse_faces.specs.Numbers.{numbers_of, numbers_after}
-use Rattle.sparse_faces.proofs.NumberLemmas.{points-push, numbers-push, numbers-length, numbers-once, points-once, with-known, with-new, with-length}
+use Rattle.sparse_faces.proofs.NumberLemmas.{points-push, numbers-push, numbers-length, numbers-once, points-once, with-new, with-length}
 
 -- a point that the table has
 module _ (earlier table : List ℕ) (v e : ℕ) (is : IsInverse earlier table) (inside : v < length table) (few : length earlier ≤ 2 ^ 30) (there : e ≡ get_or table v 0) where
-  pub known-number : e ≢ 2 ^ 32 - 1 → e ≡ position_or_len (nat_eq v) earlier
-  known-number some = entry-of earlier table v e is inside (omega (arith, few)) there (entry-some earlier table v e is inside (omega (arith, few)) there some)
-
-  pub known-table : e ≢ 2 ^ 32 - 1 → IsInverse (with_point earlier v) table
-  known-table some =
-      let known = with-known earlier v (entry-some earlier table v e is inside (omega (arith, few)) there some) in
-      subst (λ (l : List ℕ). IsInverse l table) (sym known) is
-
   -- a point that the table does not have
   pub new-number : e ≡ 2 ^ 32 - 1 → length earlier ≡ position_or_len (nat_eq v) earlier
   new-number none = sym (none-number earlier v (entry-none earlier table v e is inside (omega (arith, few)) there none))
@@ -66,9 +58,6 @@ pub record AreNumbered (old : List ℕ) (i next : ℕ) (table now : List ℕ) : 
   pub few : next ≤ i
   pub now_is : now ≡ put_in (numbers_after [] (take i old)) i old
 
-pub none-numbered : (old : List ℕ) (table : List ℕ) → IsInverse [] table → AreNumbered old 0 0 table old
-none-numbered old table is = record { table_is = is; next_is = refl; few = omega arith; now_is = refl }
-
 module _ (old : List ℕ) (i next : ℕ) (table now : List ℕ) (are : AreNumbered old i next table now) where
   abbrev done : List ℕ
   done = numbers_after [] (take i old)
@@ -82,11 +71,6 @@ module _ (old : List ℕ) (i next : ℕ) (table now : List ℕ) (are : AreNumber
   -- the item at the next place
   pub point-there : (d : ℕ) → i < length old → get_or now i d ≡ get_or old i d
   point-there d h = ap (λ (l : List ℕ). get_or l i d) are.now_is ∙ put-read done old i d (done-length h) h
-
-  pub as-many : length now ≡ length old
-  as-many =
-      ap length are.now_is ∙ length-append done (drop i old) ∙ ap (λ n. n + length (drop i old)) (numbers-length [] (take i old))
-      ∙ sym (length-append (take i old) (drop i old)) ∙ ap length (take-append-drop i old)
 
   -- a point more
   pub one-numbered : (number next' : ℕ) (table' : List ℕ) → i < length old → number ≡ position_or_len (nat_eq (get_or old i 0)) earlier

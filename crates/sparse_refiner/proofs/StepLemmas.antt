@@ -1,5 +1,5 @@
 -- The conditions and results of the steps of a sparse refinement, for some selected faces.
-use Rattle.std.proofs.Common.{◌≡◌, ℕ, ◌+◌, ◌^◌, ◌<◌, ◌≤◌, Bool, true, false, nat_eq, nat_lt, List, length, map, get_or, Result, Ok, Err, IfOk, IsErr, IsErrAnd, MatchResult, arith, ap, sym, ◌∙◌, subst}
+use Rattle.std.proofs.Common.{◌≡◌, ℕ, ◌+◌, ◌<◌, Bool, true, false, nat_eq, nat_lt, List, length, map, get_or, Result, Ok, Err, IfOk, IsErr, IsErrAnd, MatchResult, arith, ap, sym, ◌∙◌, subst}
 use Rattle.std.specs.List.{All, list_all, position_or_len, range_with_len}
 use Rattle.std.proofs.lemmas.Bool.{and_parts}
 use Rattle.std.proofs.lemmas.List.{length-map}
@@ -68,9 +68,6 @@ module _ (s : SparseTopology) (whole : IsTopology s.topology) (present : Present
       let at = place-at t whole some within i inside in
       omega (arith, at.is_face, are.inner.count, ap (λ (xs : List (ℕ × ℕ)). (get_or xs i (0, 0)).0) are.places)
 
-  pub few-places : length present.places.items ≤ 2 ^ 22
-  few-places = omega (arith, are.few, length-map present.places.items place_of, ap length are.places)
-
   -- the points that are numbered
   pub points-of : (points : List ℕ) → points ≡ points_at s.topology.level (map place_of present.places.items) → points ≡ points_in s.topology (selected_by present)
   points-of points e = e ∙ ap (points_at t.level) are.places ∙ points-next t.level some
@@ -131,9 +128,6 @@ module _ (s : SparseTopology) (whole : IsTopology s.topology) (present : Present
   is-child next next_whole made origins e =
       subst (λ (os : List PointOrigin). IsChild t next os (map place_of present.places.items)) (sym e)
       (subst (λ (xs : List (ℕ × ℕ)). IsChild t next (origins_in t some) xs) (sym are.places) (next-child t whole some within next made (over-of next next_whole)))
-
-  pub child-is : (next : Topology) (child : ChildTopology) (origins : List PointOrigin) → child ≡ child_of s.topology next origins (map place_of present.places.items) → origins ≡ origins_in s.topology (selected_by present) → child ≡ child_of s.topology next (origins_in s.topology (selected_by present)) (places_in s.topology (selected_by present))
-  child-is next child origins e o = e ∙ ap (λ (os : List PointOrigin). child_of t next os (map place_of present.places.items)) o ∙ ap (λ (xs : List (ℕ × ℕ)). child_of t next (origins_in t some) xs) are.places
 
   module _ (is : IsSparseTopology s) (next : Topology) (next_whole : IsTopology next) (made : IsNextLevel s.topology (selected_by present) next) (child : ChildTopology) (numbers : List ℕ) (inner : List Bool) (depth : ℕ)
       (joined : child ≡ child_of s.topology next (origins_in s.topology (selected_by present)) (places_in s.topology (selected_by present)))

@@ -1,5 +1,5 @@
 -- The facts of the level after k steps over sparse levels, for any data and any visitor.
-use Rattle.std.proofs.Common.{◌≡◌, ℕ, zero, suc, ◌+◌, ◌<◌, ◌≤◌, Bool, true, false, nat_lt, List, [], ◌∷◌, length, map, arith, refl, ap, sym, ◌∙◌, subst}
+use Rattle.std.proofs.Common.{◌≡◌, ℕ, zero, suc, ◌+◌, ◌<◌, Bool, true, false, nat_lt, List, [], ◌∷◌, length, map, arith, refl, ap, sym, ◌∙◌, subst}
 use Rattle.std.specs.List.{filter, range_with_len}
 use Rattle.std.proofs.lemmas.Bool.Decides.{nat_tests}
 use Rattle.std.proofs.lemmas.List.FromFn.{length-map-range_with_len}
@@ -14,7 +14,6 @@ use Rattle.subdiv_model.specs.Channel.{Sharpnesses}
 use Rattle.level_topology.specs.Topology.{Topology}
 use Rattle.level_topology.specs.Child.{ChildTopology}
 use Rattle.level_walk.specs.declared.fault.Cause.{Cause}
-use Rattle.level_walk.specs.Walk.{Place, IsWalked}
 use Rattle.sparse_laws.specs.Selected.{is_selected_in}
 use Rattle.sparse_laws.specs.Written.{written_here}
 use Rattle.sparse_laws.proofs.OverflowLemmas.{faces-counted}
@@ -110,11 +109,3 @@ module _ (test : FaceFacts → Bool) (base : Level) (depth : ℕ) where
   pub made-next : (k : ℕ) (from : Walked) (child : ChildTopology) (next : Walked) (old new : ℕ) → k < depth → IsReached k from.sparse → IsMade test from child next old new → IsReached (k + 1) next.sparse
   made-next k from child next old new within is made =
       subst (λ (w : Walked). IsReached (k + 1) w.sparse) (sym made.next_is) (reached-next k from.sparse is within made.step made.refined)
-
-  -- the level after k rounds
-  pub walked-reached : {C V : Type 0} (Follows : Topology → ChildTopology → C → C → ℕ → ℕ → Type 0) (Takes : V → Walked → C → V → Type 0) (start : Place Walked C V) → IsReached 0 start.reached.level.sparse
-      → (k : ℕ) (end : Place Walked C V) → k ≤ depth → IsWalked topology_of (IsMade test) Follows Takes start k end → IsReached k end.reached.level.sparse
-  walked-reached {C = C} {V = V} Follows Takes start at zero end within is = subst (λ (p : Place Walked C V). IsReached 0 p.reached.level.sparse) (sym is) at
-  walked-reached {C = C} {V = V} Follows Takes start at (suc k) end within (before, (walked, leads)) =
-      subst (λ n. IsReached n end.reached.level.sparse) (plus-one k)
-      (made-next k before.reached.level leads.made.child end.reached.level before.steps leads.made.level_steps (omega (arith, within)) (walked-reached Follows Takes start at k before (omega (arith, within)) walked) leads.made.made)

@@ -92,15 +92,6 @@ HaveCapacity-grown old new rows entries g have = record {
   numerator_capacity = omega (arith, ap length g.numerators, have.numerator_capacity, g.capacity.numerators);
 }
 
--- the arrays have the capacity for a row that was reserved with its entries
-pub HaveSpace-of_capacity : (arrays : Arrays) (rows entries n : ℕ) → HaveCapacity arrays rows entries → 0 < rows → n ≤ entries → HaveSpace arrays n
-HaveSpace-of_capacity arrays rows entries n have some short = record {
-  ends = omega (arith, have.end_capacity);
-  denominators = omega (arith, have.denominator_capacity);
-  indices = omega (arith, have.index_capacity);
-  numerators = omega (arith, have.numerator_capacity);
-}
-
 -- the greatest denominator with a row more
 greatest-with_row : (row : Row) (table : Table) → greatest_of (with_row row table) ≡ max (greatest_of table) row.den
 greatest-with_row row table =

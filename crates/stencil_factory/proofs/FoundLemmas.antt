@@ -90,18 +90,6 @@ module _ (level : Level) (table : Table) (masks : List Mask) where
   abbrev own : Mask → ℕ
   own = mask_denominator (source_denominator level (dens_of table))
 
-  -- The denominators of no row.
-  pub rows-start : (found : List ℕ) → found ≡ [] → AreRowDenominators level table [] found
-  rows-start found none = subst (AreRowDenominators level table []) (sym none) (record {
-    each = refl;
-    positive = λ i d below. absurd (omega (arith, below));
-    short = λ i d below. absurd (omega (arith, below));
-  })
-
-  -- The denominators of all rows.
-  pub rows-end : (row : ℕ) (found : List ℕ) → length masks ≤ row → AreRowDenominators level table (take row masks) found → AreRowDenominators level table masks found
-  rows-end row found past are = subst (λ list. AreRowDenominators level table list found) (take_all row masks past) are
-
   module _ (row : ℕ) (below : row < length masks) (found : List ℕ) (are : AreRowDenominators level table (take row masks) found)
       (den : ℕ) (some : 0 < own (mask_at masks row)) (den_is : den ≡ within_bound (own (mask_at masks row))) where
     -- The denominators of one further row.

@@ -28,7 +28,7 @@ use Rattle.child_masks.specs.Found.{ArePointDenominators, AreFaceDenominators}
 use Rattle.child_masks.proofs.WithinLemmas.{within-kept}
 use Rattle.child_masks.proofs.FaceLemmas.{face-corners, face-same}
 use Rattle.child_masks.proofs.AmongLemmas.{part-sources}
-use Rattle.child_masks.proofs.AddLemmas.{tells}
+use Rattle.child_masks.proofs.AddLemmas.{have-denominators}
 use Rattle.child_masks.proofs.MeanLemmas.{mean-positive}
 use Rattle.child_masks.proofs.OriginLemmas.{some-corners}
 use Rattle.stencil_apply.specs.Table.{Share}
@@ -49,7 +49,7 @@ module _ (t : Topology) (is : IsTopology t) (dens faces : List ℕ) (points : Ar
       let listed : f < length faces = subst (λ n. f < n) (sym known.count) below in
       let polygon = polygon_at t.level.polygons f in
       let mask = face-mask t.level f (length polygon) is.simple below refl in (
-        (tells t dens faces is points known).positive (OfFace f) listed,
+        (have-denominators t dens faces is points known).positive (OfFace f) listed,
         λ m some short divides.
             let kept : source_denominator t.level dens (OfFace f) ≤ number_bound = le_trans (le_of_dvd some divides) short in
             let own : get_or faces f 1 ≡ source_denominator t.level dens (OfFace f) = get_or_default faces f 1 0 listed ∙ known.each f below ∙ within-kept _ kept in (

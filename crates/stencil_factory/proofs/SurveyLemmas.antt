@@ -35,9 +35,6 @@ module _ (parent : Topology) (scheme : Scheme) (origins : List PointOrigin) (den
   found-count =
       ap length is.dens ∙ length-map (masks_from parent.level scheme origins) (mask_denominator (source_denominator parent.level dens)) ∙ length-map origins (mask_from parent.level scheme)
 
-  pub found-inside : (p : ℕ) → p < length origins → p < length survey.dens.items
-  found-inside p inside = subst (λ n. p < n) (sym found-count) inside
-
   -- The denominator of a point is that of its mask.
   found-at : (p d : ℕ) → p < length origins → get_or survey.dens.items p d ≡ own p
   found-at p d inside =

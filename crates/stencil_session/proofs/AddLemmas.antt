@@ -51,9 +51,6 @@ module _ (column : List Entry) (before : List Point3) (difference : List ℤ) (c
   same-amount : (row : ℕ) → row ≡ entry.0 → amount_at row entry ≡ entry.1
   same-amount row e = grind (arith, nat_tests)
 
-  other-amount : (row : ℕ) → (row ≡ entry.0 → ⊥) → amount_at row entry ≡ 0
-  other-amount row e = grind (arith, nat_tests)
-
   -- one mark more
   pub marked-more : (old now new : List Bool) → now ≡ marked old (take at column) → new ≡ set now (get_or rows at 0) true → new ≡ marked old (take (at + 1) column)
   marked-more old now new so_far e =

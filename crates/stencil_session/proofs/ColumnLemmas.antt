@@ -1,9 +1,9 @@
 -- The columns of a table from its entries.
-use Rattle.std.proofs.Common.{◌≡◌, ℕ, zero, suc, ◌+◌, ◌-◌, ◌^◌, ◌<◌, ◌≤◌, Bool, true, false, cond, if◌then◌else◌, nat_eq, nat_lt, List, [], ◌∷◌, ◌++◌, length, map, get_or, take, drop, replicate, slice_range, sum, arith, refl, ap, sym, ◌∙◌, add-one}
+use Rattle.std.proofs.Common.{◌≡◌, ℕ, zero, suc, ◌+◌, ◌-◌, ◌^◌, ◌<◌, ◌≤◌, Bool, true, false, cond, if◌then◌else◌, nat_eq, nat_lt, List, [], ◌∷◌, ◌++◌, length, map, get_or, take, drop, slice_range, sum, arith, refl, ap, sym, ◌∙◌, add-one}
 use Rattle.std.specs.List.{All, AllPairs, filter, count_by, list_any, zip, range_with_len}
 use Rattle.std.proofs.lemmas.Bool.{eqb-true}
 use Rattle.std.proofs.lemmas.Bool.Decides.{nat_tests}
-use Rattle.std.proofs.lemmas.List.{map-append, length-append, get_or-replicate, length-replicate, take_all, take-map, drop-map}
+use Rattle.std.proofs.lemmas.List.{map-append, length-append, take_all, take-map, drop-map}
 use Rattle.std.proofs.lemmas.List.Elements.{filter-append}
 use Rattle.std.proofs.lemmas.List.Kept.{AllPairs-from_increasing}
 use Rattle.std.proofs.lemmas.List.Sums.{sum_by-append, sum_by-cons, sum_by_more}
@@ -18,13 +18,6 @@ use Rattle.stencil_session.specs.Columns.{Cell, Entry, cells_of, cells_from, col
 use Rattle.stencil_session.specs.declared.parts.Parts.{Parts}
 use Rattle.stencil_session.proofs.CellLemmas.{length-cells_of, length-cells, cells-few}
 use Rattle.stencil_session.proofs.PutLemmas.{start-next, start-most}
-
--- before any entry is counted
-pub AreCounts-none : (controls : ℕ) (counts : List ℕ) → counts ≡ replicate controls 0 → AreCounts controls [] counts
-AreCounts-none controls counts e = record {
-  long = ap length e ∙ length-replicate controls 0;
-  each = λ i h. ap (λ xs. get_or xs i 0) e ∙ get_or-replicate controls i 0 0 h;
-}
 
 start-none : (cells : List Cell) → start_of cells 0 ≡ 0
 start-none [] = refl

@@ -1,5 +1,5 @@
 -- Numbers by how many digits they have.
-use Rattle.std.proofs.Common.{◌≡◌, ℕ, suc, ◌+◌, ◌-◌, ◌*◌, ◌^◌, ◌<◌, ◌≤◌, true, false, not, ◌||◌, nat_eq, nat_le, List, [], ◌∷◌, length, take, drop, get_or, length-take-le, arith, ap, sym, ◌∙◌, add-one}
+use Rattle.std.proofs.Common.{◌≡◌, ℕ, suc, ◌+◌, ◌-◌, ◌*◌, ◌^◌, ◌<◌, ◌≤◌, true, nat_le, List, [], ◌∷◌, length, take, drop, get_or, length-take-le, arith, ap, sym, ◌∙◌, add-one}
 use Rattle.std.specs.List.{fold, list_all}
 use Rattle.std.proofs.Math.Nat.{mul-le-mul_right, pow-le-pow_right}
 use Rattle.std.proofs.lemmas.Bool.{and_parts, leb-true}
@@ -10,13 +10,6 @@ use Rattle.std.proofs.lemmas.List.Folds.{list_all-append}
 use Rattle.std.proofs.lemmas.List.Sums.{AllPass-from_list_all}
 use Rattle.subdiv_model.specs.Digits.{is_digit, is_number_word, number_of_digits}
 use Rattle.obj_laws.proofs.DigitLemmas.{digits-below}
-
-pub number-digits : (word : List ℕ) → is_number_word word ≡ true → list_all is_digit word ≡ true
-number-digits [] h = absurd (no h)
-  where
-    no : false ≡ true → ⊥
-    no e = cc
-number-digits (b ∷ rest) h = (and_parts (list_all is_digit (b ∷ rest)) (not (nat_eq b 48) || nat_eq (length rest) 0) h).0
 
 -- digits behind a number make it greater by a power of ten
 above : (a : ℕ) (digits : List ℕ) → a * 10 ^ length digits ≤ fold (λ n b. n * 10 + (b - 48)) a digits

@@ -227,7 +227,7 @@ module _ (t : Topology) (is : IsTopology t) (n : Slotted) (are : AreChildEdges t
       open-row ends o =
           let edges = number_at n.slots (half_slot polygons a e) ∷ number_at n.slots (inner_slot polygons f (corner_of polygons a f)) ∷ number_at n.slots (half_slot polygons b e) ∷ [] in
           row-of quads (kids-simple t is) (kids-distinct t is) x true (A ∷ (B ∷ [])) (1 ∷ (3 ∷ [])) edges ends
-          (record { start = A; is = open-from; alone = λ yes. open-without-predecessor; led = λ no. absurd (cc) })
+          (record { start = A; is = open-from; no_predecessor = λ yes. open-without-predecessor; led = λ no. absurd (cc) })
           (two-same (sym (start-corner t is f a b e inside side number)) (sym (end-corner t is f a b e inside side number)))
           (three-same (sym (start-before t is f a b e inside side number n are)) (sym (end-before t is f a b e inside side number n are)) (sym (end-after t is f a b e inside side number n are)))
           (o ∙ ap (λ es. map (end_in es x) edges) (ends-all t is n are))

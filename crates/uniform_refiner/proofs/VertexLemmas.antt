@@ -136,9 +136,6 @@ module _ (t : Topology) (is : IsTopology t) (n : Slotted) (are : AreChildEdges t
       edges-more i h (inr e) = omega (arith, h, e)
 
   module _ (some : 0 < length faces) where
-    first-face : ℕ
-    first-face = get_or faces 0 0
-
     from : IsFanFrom quads v (get_or (map kid faces) 0 0) (map kid faces)
     from = record { path = kid-path; once = kid-once; all = kid-all; some = omega (arith, some, length-map faces kid); first = refl }
 
@@ -234,8 +231,8 @@ module _ (t : Topology) (is : IsTopology t) (n : Slotted) (are : AreChildEdges t
             ap (corner_of quads v) (sym found.2) ∙ kid-first found.0 found.1))
 
         go : (length edges ≡ length faces) ⊎ (length edges ≡ length faces + 1) → IsRow quads v true (map kid faces) at halves ends
-        go (inl closed) = row-of quads (kids-simple t is) (kids-distinct t is) v false (map kid faces) at halves ends (record { start = get_or (map kid faces) 0 0; is = from; alone = λ no. absurd (cc); led = λ yes. led closed }) zeros (closed-halves closed) e
-        go (inr apart) = row-of quads (kids-simple t is) (kids-distinct t is) v true (map kid faces) at halves ends (record { start = get_or (map kid faces) 0 0; is = from; alone = λ yes. first-without-predecessor apart; led = λ no. absurd (cc) }) zeros (open-halves apart) e
+        go (inl closed) = row-of quads (kids-simple t is) (kids-distinct t is) v false (map kid faces) at halves ends (record { start = get_or (map kid faces) 0 0; is = from; no_predecessor = λ no. absurd (cc); led = λ yes. led closed }) zeros (closed-halves closed) e
+        go (inr apart) = row-of quads (kids-simple t is) (kids-distinct t is) v true (map kid faces) at halves ends (record { start = get_or (map kid faces) 0 0; is = from; no_predecessor = λ yes. first-without-predecessor apart; led = λ no. absurd (cc) }) zeros (open-halves apart) e
 
 -- the half of an edge at each end is an edge of the next level
 pub half-among : (t : Topology) (is : IsTopology t) (n : Slotted) (are : AreChildEdges t.level n) (v e : ℕ) → e < length (edges_of t.level.polygons) → has_end v (edge_at t.level.polygons e) ≡ true → is_among n.slots (half_slot t.level.polygons v e) ≡ true

@@ -2,7 +2,7 @@
 use Rattle.std.proofs.Common.{◌≡◌, ℕ, suc, ◌+◌, ◌<◌, true, List, [], ◌∷◌, length, map, get_or, arith, refl, ap, sym, ◌∙◌, subst}
 use Rattle.std.specs.List.{All, sum_by}
 use Rattle.std.proofs.lemmas.List.{get_or-map, length-map}
-use Rattle.subdiv_model.specs.Polygons.{Polygon, polygon_at, has_side, is_among}
+use Rattle.subdiv_model.specs.Polygons.{Polygon, polygon_at, is_among}
 use Rattle.subdiv_model.specs.Edges.{edges_of, edge_number}
 use Rattle.subdiv_model.specs.Child.{child_polygons}
 use Rattle.level_laws.proofs.FaceLemmas.{child_polygons-length}
@@ -11,7 +11,7 @@ use Rattle.level_topology.specs.Numbering.{IsNumbering}
 use Rattle.child_slots.specs.Slots.{first_child, slots_at}
 use Rattle.child_slots.specs.Parts.{IsPart, part, place_number, whole_quad, part_polygons}
 use Rattle.child_slots.specs.Slotted.{Slotted, number_at}
-use Rattle.child_slots.specs.Walked.{IsSlot, IsPartSlot, numbered_of, ArePartEdges}
+use Rattle.child_slots.specs.Walked.{IsSlot, IsPartSlot, numbered_of}
 use Rattle.child_slots.proofs.SlotLemmas.{first-below}
 use Rattle.child_slots.proofs.QuadLemmas.{child-quad, face-below}
 use Rattle.child_slots.proofs.ChildEdgeLemmas as parts
@@ -69,9 +69,6 @@ module _ (points : ℕ) (polygons : List Polygon) where
 pub listed-part : (points : ℕ) (polygons : List Polygon) (places : List (ℕ × ℕ)) → places ≡ all_places 0 polygons → IsPart points polygons (part places (λ n. true) (λ n. n))
 listed-part points polygons places p = subst (λ (xs : List (ℕ × ℕ)). IsPart points polygons (part xs (λ n. true) (λ n. n))) (sym p) (whole-is points polygons)
 
-pub listed-edges : (t : Topology) (places : List (ℕ × ℕ)) (n : Slotted) → places ≡ all_places 0 t.level.polygons → ArePartEdges t.level (part places (λ k. true) (λ k. k)) n → AreChildEdges t.level n
-listed-edges t places n p are = subst (λ (xs : List (ℕ × ℕ)). ArePartEdges t.level (part xs (λ k. true) (λ k. k)) n) p are
-
 module _ (t : Topology) (is : IsTopology t) (n : Slotted) (are : AreChildEdges t.level n) where
   abbrev points : ℕ
   points = t.level.point_count
@@ -96,10 +93,6 @@ module _ (t : Topology) (is : IsTopology t) (n : Slotted) (are : AreChildEdges t
   -- a side's number is that of its slot
   pub slot-number : (a : ℕ) (s : ℕ × ℕ) → IsSlot points polygons a s → number_at n.slots a ≡ edge_number quads s
   slot-number a s slot = parts.slot-number t is (whole_part polygons) n are a s (whole-slot points polygons a s slot) ∙ ap (λ qs. edge_number qs s) (whole-quads points polygons)
-
-  -- the slot of a side of a child face has an edge
-  pub slot-among : (a : ℕ) (s : ℕ × ℕ) (k : ℕ) → IsSlot points polygons a s → has_side s (polygon_at quads k) ≡ true → is_among n.slots a ≡ true
-  slot-among a s k slot has = parts.slot-among t is (whole_part polygons) n are a s k (whole-slot points polygons a s slot) (ap (λ qs. has_side s (polygon_at qs k)) (whole-quads points polygons) ∙ has)
 
   -- the slots of a child face's sides
   module _ (f c : ℕ) (h : c < length (polygon_at polygons f)) where
