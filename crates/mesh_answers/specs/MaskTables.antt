@@ -38,7 +38,7 @@ mask_faults track counted channel k masks =
     ++ (fault_where (nat_lt entry_bound (entries_of_masks channel k masks)) (TooLarge counted)
     ++ fault_where (nat_lt number_bound (fold max 1 (denominators_of_masks channel k masks) * max channel.greatest channel.common)) (Overflow track k ValueOverflow))
 
--- the refusal of a mesh by a command that makes something from its table at a depth, which has these faults
+-- the refusal of a mesh by a command that makes rows from its table at a depth, where the rows have these faults
 abbrev pub refusal_behind_table : List Fault → ObjMesh → ℕ → Option Fault
 refusal_behind_table faults mesh depth = refusal_by (table_faults depth mesh ++ faults) mesh
 

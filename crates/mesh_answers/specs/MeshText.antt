@@ -4,7 +4,7 @@ use Rattle.subdiv_model.specs.ObjMesh.{ObjMesh}
 use Rattle.subdiv_model.specs.ReadObj.{read_obj_fault, read_obj_mesh}
 use Rattle.subdiv_model.specs.Fault.{Fault, Obj, Memory}
 
--- the text has no fault, and this is its mesh, with a power of ten in its common denominator; or this is its fault, or memory ran out
+-- the text has no fault, and this is its mesh; a power of ten divides the common denominator of its points
 pub record IsMeshText (bytes : List ℕ) (scale : ℕ) (mesh : ObjMesh) : Type 0 where
   pub good : read_obj_fault bytes scale ≡ None
   pub mesh_is : mesh ≡ read_obj_mesh bytes scale

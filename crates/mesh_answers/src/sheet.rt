@@ -87,7 +87,7 @@ fn summary_at<L: Ledger>(
 /// Errors, in this order; `Memory` may come at any time:
 ///
 /// - `TooLarge`: the first level, counted from 1, that would have more than 2^22 faces, and their number;
-/// - `Overflow` or `TooLarge`: the first level, counted from 1, at which something of the positions passes its bound.
+/// - `Overflow` or `TooLarge`: the first level, counted from 1, at which a number of the positions, or their table, passes its bound.
 ///   [`stencils`] gives the order within a level.
 pub fn generate<L: Ledger>(
     alloc: Global,

@@ -181,7 +181,8 @@ fn sparse_from<L: Ledger>(
 /// Errors, in this order; `Memory` may come at any time:
 ///
 /// - the errors of [`sparse_points`];
-/// - `TooLarge` or `Overflow`: the first level, counted from 1, at which something of the texture passes its bound.
+/// - `TooLarge` or `Overflow`: the first level, counted from 1, at which the texture's present faces, a number of their points or their
+///   table pass a bound.
 pub fn sparse<L: Ledger>(
     alloc: Global,
     mesh: &RawMesh,

@@ -83,7 +83,8 @@ pub(crate) fn selected_points<L: Ledger>(
 ///
 /// - `Mesh`: the first fault of a mesh that is not a manifold;
 /// - `TooLarge`: the first count of the mesh that passes its limit;
-/// - `TooLarge` or `Overflow`: the first level, counted from 1, at which something of the present faces or points passes its bound.
+/// - `TooLarge` or `Overflow`: the first level, counted from 1, at which the present faces, a number of their points or their table pass a
+///   bound.
 ///
 /// Within a level the order is: more than 2^22 present faces (`TooLarge`), `Chaikin`, `Transition`, `Denominator`, a table of more than
 /// 2^27 entries (`TooLarge`), `Value`.
