@@ -70,7 +70,7 @@ IsOwnTable text depth result = MatchResult result (IsOwn text depth) (λ fault. 
 abbrev pub IsWhole : List ℕ → Table → Type 0
 IsWhole text table = read_table text ≡ Ok (record { table = table; rest = [] })
 
--- the fault is that of the text, beside any table of the mesh
+-- the fault is that of the text, whatever the table of the mesh is
 abbrev pub IsRefusedTable : List ℕ → ℕ → FarFault → Type 0
 IsRefusedTable text lines fault = (own : Table) → IsFound (fault_of fault) (stored_fault lines own (read_table text))
 
