@@ -35,7 +35,7 @@ abbrev pub IsPosedOn : ObjMesh → List (List (List ℕ)) → List (List ℕ) �
 IsPosedOn mesh before words posed (Ok _) = IsPosedAfter mesh (before ++ words ∷ []) posed
 IsPosedOn mesh before words posed (Err _) = Unit {0}
 
--- A line after others. Its number is counted from 1.
+-- The answer to a line after other lines. The number of the line is counted from 1.
 pub record AnswersLine {K : Type 0} (sink : Ghosts K) (mesh : ObjMesh) (before : List (List (List ℕ))) (number : ℕ) (line : List ℕ) (old new : Posed) (k k' : K) (result : Result (Unit {0}) FarFault) (taken : ℕ) : Type 0 where
   pub answers : Answers sink (frame_answer old.depth mesh before number line) k k' result
   pub posed : IsPosedOn mesh before (line_words line) new result
@@ -44,7 +44,7 @@ pub record AnswersLine {K : Type 0} (sink : Ghosts K) (mesh : ObjMesh) (before :
   pub later : sink.faults k ≤ sink.faults k'
   pub fixed : sink.fixed k' ≡ sink.fixed k
 
--- a line after those that the mesh had, whichever they were
+-- the answer to a line after those that the mesh had, whichever they were
 abbrev pub AnswersAfter : {K : Type 0} → Ghosts K → ℕ → List ℕ → Posed → Posed → K → K → Result (Unit {0}) FarFault → ℕ → Type 0
 AnswersAfter sink number line old new k k' result taken =
     (mesh : ObjMesh) (before : List (List (List ℕ))) → IsPosedAfter mesh before old → AnswersLine sink mesh before number line old new k k' result taken

@@ -15,7 +15,7 @@ line_steps depth mesh words = if is_move_line words then length (changed_points 
 abbrev pub start_least : ℕ → ObjMesh → ℕ
 start_least depth mesh = position_steps ByTable depth mesh
 
--- the greatest number of steps of the start: also one for each face of the levels
+-- the greatest number of steps of the start: one for each entry of the table, and one for each face of the levels
 abbrev pub start_limit : ℕ → ObjMesh → ℕ
 start_limit depth mesh = level_faces_to depth mesh + start_least depth mesh
 

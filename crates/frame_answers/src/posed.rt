@@ -86,9 +86,9 @@ impl PosedMesh {
 
     /// Answers a frame line. `number` is its number, counted from 1.
     ///
-    /// A move puts a control point at its new place and marks the points that depend on it, with one step for each. The word `go` writes
-    /// the number of marked points and a line for each, ascending, then unmarks them. A line without words does nothing. The call takes
-    /// no memory.
+    /// A move puts a control point at its new place and marks the points that depend on it. It counts at most one step for each. The word
+    /// `go` writes the number of marked points and a line for each, ascending, then unmarks them. A line without words does nothing. The
+    /// call takes no memory.
     ///
     /// Errors:
     ///
