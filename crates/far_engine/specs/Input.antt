@@ -21,7 +21,7 @@ use Rattle.mesh_answers.specs.MeshText.{IsMeshText}
 use Rattle.far_engine.specs.Outcome.{IsAnswered, is_after_reading}
 use Rattle.far_engine.specs.StepCounts.{least_steps, step_limit}
 
--- the cause why a source could not be read to its end
+-- the fault of a run for a source that could not be read to its end
 abbrev pub input_fault_of : InputFault → Fault
 input_fault_of ReadFailed = model.Read
 input_fault_of TooLong = model.Long

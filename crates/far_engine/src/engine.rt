@@ -45,7 +45,7 @@ use std::sync::ledger::Ledger;
 /// - `Overflow` of the positions, or `TooLarge` for a table with more than 2^27 entries: the first level at which a number passes its
 ///   bound. Within a level the order is `Chaikin`, `Transition`, `Denominator`, entries, `Value`. `levels` and `map` look only at
 ///   `Chaikin`, and `refine` level by level has no table;
-/// - with `refine` and `sparse`: the same for the texture;
+/// - with `refine` and `sparse`: `Overflow` of the texture, or `TooLarge`, at its first such level;
 /// - with `limit`: `Limit`, the least point of the last level without a limit point; then `Overflow` (denominator), `TooLarge` (entries),
 ///   `Overflow` (numerator) of the limit points;
 /// - with `patch`: `Place`, if the last level has no such face or the face has no patch. Then `Overflow`, `TooLarge`, `Overflow` of the

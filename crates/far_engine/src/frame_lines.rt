@@ -50,7 +50,7 @@ fn too_long(number: u32) -> FarFault
 }
 
 impl FrameLines {
-    /// The lines behind the present line of a reader of a text. `line` is the number of that line.
+    /// The lines behind the present line of a reader of a text. `number` is the number of that line, counted from 1.
     pub(crate) fn after(
         alloc: Global,
         text: &TextReader,
