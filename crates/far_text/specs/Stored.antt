@@ -7,7 +7,7 @@ use Rattle.far_text.specs.Lines.{valued_line}
 use Rattle.far_text.specs.Points.{CanBeWritten}
 use Rattle.far_text.specs.declared.stored.TablePoints.{TablePoints}
 
--- the line that a table with this number of rows agrees with another
+-- the line which says that a table with this number of rows agrees with another
 abbrev pub agreement_line : ℕ → List ℕ
 agreement_line rows = line_text (codes "table") (codes "agrees" ∷ number_text rows ∷ [])
 

@@ -126,7 +126,7 @@ pub fn put_refined<K: Sink>(
     requires written { CanBePut mesh.now form }
     ensures { Puts K.Sink out.old out.new (refined_text mesh.now form) result }
 {
-    // the empty text fails if a call before has failed
+    // Putting the empty text fails if an earlier call has failed.
     out.put_bytes(b"")?;
     put_lines(out, mesh, form)?;
     put_tags_of(out, &mesh.level, form.tags)

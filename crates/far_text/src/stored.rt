@@ -18,7 +18,7 @@ pub struct TablePoints {
     pub common: u128,
 }
 
-/// Puts the line that a stored table of `rows` rows agrees with the table of a mesh. It takes no memory.
+/// Puts the line which says that a stored table of `rows` rows agrees with the table of a mesh. It takes no memory.
 pub fn put_agreement<K: Sink>(out: &mut Out<'_, K>, rows: u32) -> Result<(), WriteFailed>
     ensures { Puts K.Sink out.old out.new (agreement_line rows) result }
 {
