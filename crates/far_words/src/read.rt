@@ -201,8 +201,7 @@ fn rule_named<'a>(table: &'a [CommandRule], name: &str) -> Option<&'a CommandRul
 
 /// Returns the command of the words by a table.
 ///
-/// The error is the place, counted from 0, of the first word that no command of the table allows. If only a required option is missing, it
-/// is the number of words.
+/// The error is the place of the first bad word, counted from 0, or the number of words if only a required option is missing.
 pub fn read_words_by(table: &[CommandRule], words: &Vec<String>) -> Result<Command, u32>
     requires { IsTrue (is_u32_table (table_of_code table.now)) }
     ensures { result_of_code result ≡ model.read_words_by (table_of_code table.now) (map string_bytes words.now.items) }
