@@ -22,7 +22,7 @@ track_of Texture = model.Texture
 track_of LimitRows = model.LimitRows
 track_of Patch = model.Patch
 
--- a cause why a point has no limit point, as one of the definitions
+-- a cause that leaves a point without a limit point, as one of the definitions
 abbrev pub limit_cause_of : LimitCause → model.LimitCause
 limit_cause_of (Dart v) = model.Dart v
 limit_cause_of (SemiSharp v) = model.SemiSharp v

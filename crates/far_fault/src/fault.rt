@@ -27,7 +27,7 @@ pub enum Track {
     Patch,
 }
 
-/// The cause why a point of a level has no limit point. The field is the point, counted from 0.
+/// The cause that leaves a point of a level without a limit point. The field is the point, counted from 0.
 #[derive(Clone, Copy, Debug, PartialEq, Eq)]
 pub enum LimitCause {
     /// One infinitely sharp edge ends at the point.
@@ -36,12 +36,12 @@ pub enum LimitCause {
     SemiSharp(u32),
 }
 
-/// The cause why a place of a face has no patch or no leaf. Faces and corners are counted from 0.
+/// The cause that leaves a place of a face without a patch or a leaf. Faces and corners are counted from 0.
 #[derive(Clone, Copy, Debug, PartialEq, Eq)]
 pub enum PlaceFault {
     /// The level does not have the requested face. `count` is the number of its faces.
     NoFace { count: u32 },
-    /// The face is not a quad, or one of its corners is sharp, on a boundary, or not surrounded by four quads.
+    /// The face is not a quad, or one of its corners is sharp, on a sharp edge, on a boundary, or not surrounded by four quads.
     NotRegular { face: u32 },
     /// The face has no places with the requested corner. `count` is the number of its corners. A quad has all its places at corner 0; any
     /// other face has places at each corner.
@@ -72,8 +72,8 @@ pub enum FarFault {
     /// The mesh is a manifold, but a count passes its limit. The field is the first such count. It counts levels from 1, and faces and
     /// vertices from 0.
     TooLarge(Counted),
-    /// A number passes its bound. `track` is its group of values, `level` the first level with such a number, and `kind` its kind. Levels
-    /// are counted from 1; only the rows of a patch on the mesh itself have level 0.
+    /// A number passes its bound. `track` is its group of values, `level` the first level with such a number, and `kind` its kind. The mesh
+    /// itself is level 0: a patch or a move at depth 0 has this level, and so have the points of `apply`.
     Overflow {
         track: Track,
         level: u32,
@@ -158,7 +158,7 @@ fn kind_words(kind: OverflowKind) -> &'static str
     }
 }
 
-// Returns the words of the cause why a point has no limit point.
+// Returns the words of a cause that leaves a point without a limit point.
 fn limit_pieces(cause: LimitCause) -> Pieces
     ensures { result ≡ limit_cause_text (limit_cause_of cause) }
 {
@@ -168,7 +168,7 @@ fn limit_pieces(cause: LimitCause) -> Pieces
     }
 }
 
-// Returns the words of the cause why a place has no patch or no leaf.
+// Returns the words of a cause that leaves a place without a patch or a leaf.
 fn place_pieces(fault: PlaceFault) -> Pieces
     ensures { result ≡ place_fault_text (place_fault_of fault) }
 {
