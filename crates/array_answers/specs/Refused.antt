@@ -32,13 +32,13 @@ pub record AreNoMesh (mesh : MeshArrays) (found : FaultRecord) : Type 0 where
   pub is : IsArraysFault mesh fault
   pub recorded : found ≡ record_of_arrays fault
 
--- the arrays are a mesh, and this is its first fault, with those of its levels
+-- the record of the mesh's first fault, given the faults of its levels
 pub record IsRefusedBy (faults : List Fault) (mesh : ObjMesh) (found : FaultRecord) : Type 0 where
   pub fault : Fault
   pub is : IsFound fault (refusal_by faults mesh)
   pub recorded : IsRecordOf found fault
 
--- the first fault of a mesh in arrays, given the faults of its levels up to a depth: the depth, then the arrays, then the mesh
+-- the record of a fault of a mesh in arrays, given the faults of its levels up to a depth: of the depth, the arrays or the mesh
 abbrev pub IsRefusal : ℕ → List Fault → MeshArrays → FaultRecord → Type 0
 IsRefusal depth faults mesh found =
     ((10 < depth) × (found ≡ bad_depth)) ⊎ (AreNoMesh mesh found ⊎ IsRefusedBy faults (mesh_of_arrays mesh) found)

@@ -27,7 +27,7 @@ const DEPTH_LIMIT: u32 = 10;
 pub struct SparseRequest {
     /// The last level, counted from 0, at most 10.
     pub depth: u32,
-    /// The faces to refine. 0: those near features. 1: all.
+    /// The faces to refine. 0: the features. 1: all but holes.
     pub select: u32,
 }
 
