@@ -45,7 +45,7 @@ counted_named kind number count =
     else (if nat_eq kind 3 then Valence (low number) count else (if nat_eq kind 4 then LevelFaces (low number) count
     else (if nat_eq kind 5 then Entries (low number) else (if nat_eq kind 6 then LimitEntries else PatchEntries))))))
 
--- the cause with this kind why a point has no limit point
+-- the cause with this kind that leaves a point without a limit point
 abbrev pub limit_cause_named : ℕ → ℕ → LimitCause
 limit_cause_named kind vertex = if nat_eq kind 0 then Dart vertex else SemiSharp vertex
 

@@ -126,7 +126,7 @@ fn counted_named(kind: u32, number: u64, count: u64) -> Counted
     }
 }
 
-// Returns the cause of this kind why a point has no limit point.
+// Returns the cause of this kind that leaves a point without a limit point.
 fn limit_cause_named(kind: u32, vertex: u32) -> LimitCause
     ensures row { limit_cause_of result ≡ named.limit_cause_named kind vertex }
     ensures range { IsLimitInRange (limit_cause_of result) }

@@ -9,7 +9,7 @@ use raw_mesh::BadPart;
 /// The status of a call that succeeded.
 pub const DONE: u32 = 0;
 
-/// The status of a call with too short an array. The call has written the counts that it needs.
+/// The status of a call with too short an array. A call that returns counts has written them.
 pub const TOO_SHORT: u32 = 1;
 
 /// The status of refused arrays. For a mesh the kind is the number of the variant of `BadPart`, counted from 0, or 13 to 16 for its
