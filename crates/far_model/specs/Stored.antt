@@ -108,7 +108,7 @@ table_points table common controls =
 abbrev pub point_numbers : List (ℤ × ℤ × ℤ) → List ℤ
 point_numbers points = flat_map (λ p. p.0 ∷ p.1 ∷ p.2 ∷ []) points
 
--- why a table cannot be evaluated over points: their number is not that of its control points, or a numerator can pass its bound
+-- the fault of a table over points: their number is not that of its control points, or a numerator can pass its bound
 abbrev pub evaluation_fault : tables.Table → ObjMesh → Option Fault
 evaluation_fault table mesh =
     if not (nat_eq (length mesh.points) table.controls) then Some (Controls (length mesh.points))

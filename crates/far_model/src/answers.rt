@@ -74,7 +74,7 @@ pub fn texture_of_sparse_levels()
     ensures text { take 35 (answer (codes "sparse" ∷ codes "depth=0" ∷ codes "uv=smooth" ∷ []) seamed_text).text ≡ codes "level 0 points 6 faces 2 texture 8\n" }
 {}
 
-/// The leaves of places on the cube, where each face is refined, and the causes why a face has no places.
+/// The leaves of places on the cube, where each face is refined, and the faults of a face without places.
 pub fn leaves_of_a_cube()
     ensures middle { cube_leaf 1 2 (1, 1) ≡ codes "p 1 1 level 1 face 0 corner 0 at 1 1\n" }
     ensures beside { cube_leaf 1 2 (2, 0) ≡ codes "p 2 0 level 1 face 1 corner 0 at 0 0\n" }
