@@ -111,9 +111,9 @@ least_steps (Levels depth) mesh = 0
 least_steps (Patch options) mesh = patch_steps options mesh
 least_steps (Map options) mesh = 0
 
--- The greatest number of steps of a command: one for each face of the levels that it makes, of the positions and of the texture, and the
--- steps of the values. Sparse levels take one for each present face and one for each entry of a present point, for the positions and for
--- the texture. Limit points and a patch take one for each entry of their table besides the faces. A map takes one for each present face.
+-- The greatest number of steps of a command, for the positions and for the texture: one for each face of the levels that it makes, and
+-- the steps of the values. Sparse levels take one for each present face and one for each entry of a present point. Limit points and a
+-- patch take one for each entry of their table besides the faces. A map takes one for each present face.
 abbrev pub step_limit : ReadCommand → ObjMesh → ℕ
 step_limit (Refine options) mesh = refine_limit options mesh
 step_limit (Sparse options) mesh = sparse_limit options mesh

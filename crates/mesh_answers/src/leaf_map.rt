@@ -190,8 +190,8 @@ fn map_by<T: FaceTest, F: Fn(&FaceFacts) -> bool, L: Ledger>(
     map_from(alloc, level, rule, options, steps)
 }
 
-/// Returns the leaf of each place of a grid on a face of a mesh, among the sparse levels from 0 to a depth of at most 10. A leaf is a
-/// face of these levels that is not refined further. The options select the faces to refine.
+/// Returns the leaf of each place of a grid on a face of a mesh. A leaf is a face of the sparse levels from 0 to a depth of at most 10
+/// that is not refined further. The options select the faces to refine.
 ///
 /// The face is counted from 0 and is below 2^20. The grid has 1 to 256 steps along each side. `corner` is 0 for a quad. For any other
 /// face the places are those of the child face of `corner`, counted from 0. The call counts at most one step for each present face of the

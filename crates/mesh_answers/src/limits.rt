@@ -91,8 +91,8 @@ fn limit_level(
     with_table(composed.level, limits)
 }
 
-/// Returns the level of a mesh at `depth`, from 1 to 10, with the table of its limit points over the control points of the mesh. The call
-/// counts at most one step for each face of the levels from 0 to `depth`.
+/// Returns the level of a mesh at `depth`, from 1 to 10, with the table of its limit points over the control points. The call counts at
+/// most one step for each face of the levels from 0 to `depth`.
 ///
 /// [`limit`] lists the errors.
 pub fn compose_limits<L: Ledger>(
@@ -160,7 +160,8 @@ fn limit_reply<L: Ledger>(
 /// Returns the level of a mesh at a depth from 1 to 10, with the limit point of each of its points. The reply writes coordinates as
 /// fractions in lowest terms, or rounded to at most 18 decimals. It has no texture and no tags.
 ///
-/// The call counts one step for each entry of the table of limit points, and at most one for each face of the levels from 0 to the depth.
+/// The call counts one step for each entry of the table of limit points. It adds at most one for each face of the levels from 0 to the
+/// depth.
 ///
 /// Errors, in this order; `Memory` may come at any time:
 ///

@@ -144,11 +144,11 @@ fn patch_reply<L: Ledger>(
     with_places(mesh, options, values)
 }
 
-/// Returns the points of the limit surface on a face of a mesh's level at a depth, at the places of a grid along its sides. The reply
-/// writes coordinates as fractions in lowest terms.
+/// Returns points of the limit surface on a face of a mesh's level at a depth: those at the places of a grid. The reply writes
+/// coordinates as fractions in lowest terms.
 ///
 /// The depth is at most 10. The face is counted from 0 and is below 2^22. The grid has 1 to 64 steps along each side. The call counts one
-/// step for each entry of the rows of the patch, and at most one for each face of the levels from 0 to the depth.
+/// step for each entry of the rows of the patch. It adds at most one for each face of the levels from 0 to the depth.
 ///
 /// Errors, in this order; `Memory` may come at any time:
 ///

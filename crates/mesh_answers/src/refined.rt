@@ -43,13 +43,13 @@ fn form_of(options: &RefineOptions) -> MeshForm
 /// Returns the level of a mesh at a depth of at most 10, with its points, and with its texture if the mesh has one. The reply writes
 /// numbers as fractions in lowest terms, or rounded to at most 18 decimals. It has tags if the options ask for them.
 ///
-/// The call refines the positions and, on its cut mesh, the texture. For each of the two it counts one step for each entry of the table,
-/// or for each mask term if it works level by level. It adds at most one for each face of the levels from 0 to the depth.
+/// The call refines the positions and, on its cut mesh, the texture. For both it counts one step for each entry of the table, or for each
+/// mask term if it works level by level. For both it adds at most one for each face of the levels from 0 to the depth.
 ///
 /// Errors, in this order; `Memory` may come at any time:
 ///
 /// - the errors of [`stencils`], for the positions;
-/// - `Overflow` or `TooLarge`: the first level, counted from 1, at which a number of the texture, or its table, passes its bound.
+/// - `Overflow` or `TooLarge`: the first level, counted from 1, at which a number or a count of the texture passes its bound.
 ///
 /// Level by level there is no table, and so no limit on its entries.
 pub fn refine<L: Ledger>(

@@ -81,13 +81,13 @@ fn summary_at<L: Ledger>(
     Ok(summary_of(mesh, depth, composed, last_of(&values)))
 }
 
-/// Returns the summary of a sheet of `size` times `size` quads, from 1 to 256, refined by its table to a depth of at most 10. The call
-/// counts one step for each entry of the table, and at most one more for each face of the levels from 0 to the depth.
+/// Returns the summary of a sheet of `size` times `size` quads, refined by its table to a depth of at most 10. `size` is from 1 to 256.
+/// The call counts one step for each entry of the table. It adds at most one for each face of the levels from 0 to the depth.
 ///
 /// Errors, in this order; `Memory` may come at any time:
 ///
 /// - `TooLarge`: the first level, counted from 1, that would have more than 2^22 faces, and their number;
-/// - `Overflow` or `TooLarge`: the first level, counted from 1, at which a number of the positions, or their table, passes its bound.
+/// - `Overflow` or `TooLarge`: the first level, counted from 1, at which a number or a count of the positions passes its bound.
 ///   [`stencils`] gives the order within a level.
 pub fn generate<L: Ledger>(
     alloc: Global,

@@ -176,13 +176,13 @@ fn sparse_from<L: Ledger>(
 /// the faces that the positions select.
 ///
 /// The reply writes numbers as fractions in lowest terms, or rounded to at most 18 decimals. The call counts at most one step for each
-/// present face of the levels from 0 to the depth and one for each entry of their present points. It counts as much again for a texture.
+/// present face of the levels from 0 to the depth, and for each entry of their present points. For a texture it adds at most one for each
+/// of the texture's own.
 ///
 /// Errors, in this order; `Memory` may come at any time:
 ///
 /// - the errors of [`sparse_points`];
-/// - `TooLarge` or `Overflow`: the first level, counted from 1, at which the texture's present faces, a number of their points or their
-///   table pass a bound.
+/// - `TooLarge` or `Overflow`: the first level, counted from 1, at which a count or a number of the texture passes its bound.
 pub fn sparse<L: Ledger>(
     alloc: Global,
     mesh: &RawMesh,

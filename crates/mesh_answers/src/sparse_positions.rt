@@ -73,18 +73,16 @@ pub(crate) fn selected_points<L: Ledger>(
     }
 }
 
-/// Returns the sparse levels of the positions of a mesh from level 0 to a depth of at most 10, with the points that each level writes.
-/// The options select the faces to refine; the call ignores their decimals and `uv`.
+/// Returns the sparse levels of the positions of a mesh from 0 to a depth of at most 10, each with its written points. The options select
+/// the faces to refine; the call ignores their decimals and `uv`.
 ///
-/// The call counts at most one step for each present face of the levels from 0 to the depth and one for each entry of their present
-/// points.
+/// The call counts at most one step for each present face of the levels from 0 to the depth, and for each entry of their present points.
 ///
 /// Errors, in this order; `Memory` may come at any time:
 ///
 /// - `Mesh`: the first fault of a mesh that is not a manifold;
 /// - `TooLarge`: the first count of the mesh that passes its limit;
-/// - `TooLarge` or `Overflow`: the first level, counted from 1, at which the present faces, a number of their points or their table pass a
-///   bound.
+/// - `TooLarge` or `Overflow`: the first level, counted from 1, at which a count or a number of the present faces passes its bound.
 ///
 /// Within a level the order is: more than 2^22 present faces (`TooLarge`), `Chaikin`, `Transition`, `Denominator`, a table of more than
 /// 2^27 entries (`TooLarge`), `Value`.

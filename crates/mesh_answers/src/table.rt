@@ -67,7 +67,7 @@ pub fn compose<L: Ledger>(
 /// - `Mesh`: the first fault of a mesh that is not a manifold;
 /// - `TooLarge`: the first count of the mesh that passes its limit;
 /// - `TooLarge`: the first level, counted from 1, that would have more than 2^22 faces, and their number;
-/// - `Overflow` or `TooLarge`: the first level, counted from 1, at which a number of the positions, or their table, passes its bound.
+/// - `Overflow` or `TooLarge`: the first level, counted from 1, at which a number or a count of the positions passes its bound.
 ///
 /// Within a level the order is `Chaikin`, `Transition`, `Denominator`, a table of more than 2^27 entries (`TooLarge`), `Value`.
 pub fn stencils<L: Ledger>(

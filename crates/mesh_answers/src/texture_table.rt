@@ -126,7 +126,7 @@ fn texture_from<L: Ledger>(
 /// - `Mesh`: the first fault of a mesh that is not a manifold;
 /// - `TooLarge`: the first count of the mesh that passes its limit;
 /// - `TooLarge`: the first level, counted from 1, that would have more than 2^22 faces, and their number;
-/// - `Overflow` or `TooLarge`: the first level, counted from 1, at which a number of the texture, or its table, passes its bound.
+/// - `Overflow` or `TooLarge`: the first level, counted from 1, at which a number or a count of the texture passes its bound.
 ///   [`stencils`] gives the order within a level.
 pub fn compose_texture<L: Ledger>(
     alloc: Global,
