@@ -44,7 +44,7 @@ impl Model for PosedMesh {
 
 impl PosedMesh {
     /// Returns the mesh refined to a depth of at most 10, with no point marked. No later call takes memory. The call counts one step for
-    /// each entry of the table at the depth, and at most one for each face of the levels from 0 to the depth.
+    /// each entry of the table at the depth. It adds at most one for each face of the levels from 0 to the depth.
     ///
     /// The errors are those of [`stencils`](mesh_answers::stencils), in its order.
     pub fn start<L: Ledger>(
