@@ -106,8 +106,8 @@ pub record Runs {S K : Type 0} (source : Source S) (sink : Sink K) (words : List
   -- for any outcome, all levels of a mesh that the command accepts are manifolds
   pub manifold : usage_of command_table words ≡ None → (bytes : List ℕ) (mesh : ObjMesh) → IsAcceptedMesh (command_of words) bytes mesh → HasManifolds mesh
 
--- The report of an outcome to a sink of errors: the line of the fault, or a prefix of it only if the count of faults rose. Without a
--- fault the sink is not called.
+-- The report of an outcome to a sink of errors: the line of the fault. It is a prefix of that line only if the count of faults rose.
+-- Without a fault the sink is not called.
 abbrev pub Reports : {E : Type 0} → Sink E → E → E → Option Fault → Type 0
 Reports errors e e' None = e' ≡ e
 Reports errors e e' (Some fault) =

@@ -1,5 +1,5 @@
-//! The program `far` as a library: `program` does all of its work, `run` returns the fault instead of the status, and `run_command` runs
-//! a command that is already read. Each call is generic in its source, its sink and its counter of steps, so one proof covers them all.
+//! The program `far` as a library. `program` does all of its work, and `run` returns the fault instead of the status. `run_command` runs a
+//! command that is already read. Each call is generic in its source, its sink and its counter of steps, so one proof covers them all.
 #![tactic(auto)]
 
 mod command;
