@@ -14,8 +14,8 @@ use far_io::{Sink, WriteFailed};
 use obj_out::Out;
 use ratio128::{Point3, Valued};
 
-/// The points of the patch of a face, row by row, on a grid of `grid` steps along each side: numerators over their own denominators, all
-/// over `common`.
+/// The points of the patch of a face, row by row, on a grid of `grid` steps along each side. They are numerators over their own
+/// denominators, all over `common`.
 ///
 /// The face is counted from 0. The point of the place (i, j) has the number j * (grid + 1) + i.
 #[derive(Drop)]
@@ -88,8 +88,8 @@ fn put_places<K: Sink>(out: &mut Out<'_, K>, patch: &PatchPoints) -> Result<(), 
     Ok(())
 }
 
-/// Puts the text of a patch: a line with the face and its grid, then a line for each place with its point in lowest terms, row by row. It
-/// takes no memory.
+/// Puts the text of a patch: a line with the face and its grid, then a line for each place with its point, row by row. The points are in
+/// lowest terms. The call takes no memory.
 pub fn put_patch<K: Sink>(out: &mut Out<'_, K>, patch: &PatchPoints) -> Result<(), WriteFailed>
     requires fine { out.old.failed ≡ false }
     requires written { CanPatchBePut patch.now }
