@@ -41,7 +41,7 @@ pub enum LimitCause {
 pub enum PlaceFault {
     /// The level does not have the requested face. `count` is the number of its faces.
     NoFace { count: u32 },
-    /// The face is not a quad, or one of its corners is sharp, on a sharp edge, on a boundary, or not surrounded by four quads.
+    /// The face is not a quad, or a corner of it is sharp, on a sharp or boundary edge, or not surrounded by four quads.
     NotRegular { face: u32 },
     /// The face has no places with the requested corner. `count` is the number of its corners. A quad has all its places at corner 0; any
     /// other face has places at each corner.

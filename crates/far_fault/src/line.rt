@@ -44,8 +44,8 @@ fn put_line<K: Sink>(out: &mut Out<'_, K>, pieces: &Pieces) -> Result<(), WriteF
 
 /// Writes the line of a fault, from `far: ` to the line feed, and flushes. It takes no memory.
 ///
-/// Error `WriteFailed`, only if the sink's count of faults rose: the sink then holds a prefix of the line, or the whole line if the flush
-/// failed.
+/// The error `WriteFailed` comes only if the sink's count of faults rose. The sink then holds a prefix of the line, or the whole line if
+/// the flush failed.
 pub fn report<K: Sink>(fault: &FarFault, sink: &mut K) -> Result<(), WriteFailed>
     ensures { Writes K.Sink sink.old sink.new (fault_line (fault_of fault.now)) result }
 {
