@@ -105,8 +105,8 @@ fn without_memory(out: &mut [u8], errors: &mut [u8]) -> Ran
     }
 }
 
-/// Runs the program over slices: `words` has the words of its command line, `input` its standard input, `out` its standard output and
-/// `errors` its standard error.
+/// Runs the program over slices. `words` has the words of its command line, and `input` its standard input. `out` is its standard output,
+/// and `errors` its standard error.
 ///
 /// `words` has the words after the program's name, each ended by a zero byte. If a word is not UTF-8 or the last one does not end, the
 /// status is that of `Usage` with word 0. `out` gets as much of the answer as fits and `errors` as much of the fault's line; the result
