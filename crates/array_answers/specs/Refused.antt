@@ -38,7 +38,7 @@ pub record IsRefusedBy (faults : List Fault) (mesh : ObjMesh) (found : FaultReco
   pub is : IsFound fault (refusal_by faults mesh)
   pub recorded : IsRecordOf found fault
 
--- the record of a fault of a mesh in arrays, given the faults of its levels up to a depth: of the depth, the arrays or the mesh
+-- the record of a fault of the depth, of the arrays or of their mesh, given the faults of its levels up to the depth
 abbrev pub IsRefusal : ℕ → List Fault → MeshArrays → FaultRecord → Type 0
 IsRefusal depth faults mesh found =
     ((10 < depth) × (found ≡ bad_depth)) ⊎ (AreNoMesh mesh found ⊎ IsRefusedBy faults (mesh_of_arrays mesh) found)

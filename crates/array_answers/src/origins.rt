@@ -37,7 +37,7 @@ fn origins_counted<L: Ledger>(
     }
 }
 
-/// Returns, for each point, edge and face of the level at `depth`, at most 10, the part of the mesh of the arrays on which it lies.
+/// Returns, for each point, edge and face of the level at `depth`, the part of the arrays' mesh on which it lies. `depth` is at most 10.
 ///
 /// The record is that of the first fault: `BAD_ARGUMENT` for a depth above 10; a fault of the arrays; a fault of the command `levels`, in
 /// its order. `Memory` may come at any time.
