@@ -32,7 +32,7 @@ pub struct FaultRecord {
     /// The exit status of a run with this fault, 2 to 11 or 13 to 16, or one of the constants of this crate.
     pub status: u32,
     /// The kind of the fault among those with the same status, counted from 0. For status 8 it is 4 times the track plus the kind of
-    /// overflow, both in the order of their variants, or 16 for the sum of a row.
+    /// overflow, both in the order of their variants. It is 16 for the sum of a row.
     pub kind: u32,
     /// The first number that the fault names. A count is the first number only if the fault names no face, vertex or level.
     pub first: u64,

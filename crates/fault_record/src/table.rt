@@ -159,8 +159,8 @@ fn place_record(fault: PlaceFault) -> FaultRecord
     }
 }
 
-/// Returns the record of a fault: the exit status of a run with it, its kind among the faults with that status, and the numbers that it
-/// names. The definition `record_of` in `crates/fault_record/specs/Table.antt` lists them all.
+/// Returns the record of a fault: the exit status of a run with it, its kind among the faults with that status, and its numbers. The
+/// definition `record_of` in `crates/fault_record/specs/Table.antt` lists them all.
 pub fn record_of(fault: &FarFault) -> FaultRecord
     ensures numbers { IsRecordOf result (fault_of fault.now) }
     ensures status { result.status ≡ fault_status (fault_of fault.now) }
