@@ -13,8 +13,8 @@ use level_arrays::{LevelCounts, LevelPlaces, counts_of, put_level};
 use mesh_arrays::MeshArrays;
 use std::alloc::Global;
 
-/// Writes the level of a mesh at `depth`, at most 10, and its counts: the size and the corners of each face, the ends of each edge, the
-/// holes. If an array is too short, it writes only the counts. Places behind the items keep their contents.
+/// Writes the level of a mesh at `depth`, at most 10, and its counts. The level has the size and the corners of each face, the ends of each
+/// edge, and the holes. If an array is too short, it writes only the counts. Places behind the items keep their contents.
 #[unsafe(no_mangle)]
 pub extern "C" fn far_level(
     alloc: Global,

@@ -97,7 +97,7 @@ pub extern "C" fn far_scale_floats(
 
 /// Rounds doubles, given as bits, to multiples of 2^-grid_bits, ties to even. It writes their numerators over 2^grid_bits, and the number
 /// of doubles that changed. If `out` is too short, it writes nothing. It refuses `grid_bits` above 126 first. Another fault names
-/// the first double that is not finite or has a numerator of 2^127 or more in amount, and `out` has no defined contents.
+/// the first double that is not finite or has a numerator of 2^127 or more in amount; `out` then has no defined contents.
 #[unsafe(no_mangle)]
 pub extern "C" fn far_round_doubles(
     bits: &[u64],
@@ -132,7 +132,7 @@ pub extern "C" fn far_round_doubles(
 
 /// Rounds floats, given as bits, to multiples of 2^-grid_bits, ties to even. It writes their numerators over 2^grid_bits, and the number
 /// of floats that changed. If `out` is too short, it writes nothing. It refuses `grid_bits` above 126 first. Another fault names
-/// the first float that is not finite or has a numerator of 2^127 or more in amount, and `out` has no defined contents.
+/// the first float that is not finite or has a numerator of 2^127 or more in amount; `out` then has no defined contents.
 #[unsafe(no_mangle)]
 pub extern "C" fn far_round_floats(
     bits: &[u32],

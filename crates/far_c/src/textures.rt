@@ -40,9 +40,9 @@ fn put_values(found: &TextureArrays, out: &mut [Wide]) -> bool
     true
 }
 
-/// Writes the level of a mesh's cut mesh at `depth`, at most 10, and its counts: the size and the corners of each face, the ends of each
-/// edge, the holes. `seams` chooses what stays sharp: 0 nothing, 1 the corners of charts, 2 their whole boundaries, 3 every point. If an
-/// array is too short, it writes only the counts. Places behind the items keep their contents.
+/// Writes the level of a mesh's cut mesh at `depth`, at most 10, and its counts. The level has the size and the corners of each face, the
+/// ends of each edge, and the holes. `seams` chooses what stays sharp: 0 nothing, 1 the corners of charts, 2 their whole boundaries, 3
+/// every point. If an array is too short, it writes only the counts. Places behind the items keep their contents.
 #[unsafe(no_mangle)]
 pub extern "C" fn far_texture_level(
     alloc: Global,
@@ -76,9 +76,9 @@ pub extern "C" fn far_texture_level(
     }
 }
 
-/// Writes the values of the points of a mesh's cut mesh, two numerators for each over the common denominator of the texture, and the
-/// number of points. Their order is that of the control points of texture tables. If `out` is too short, it writes only the number.
-/// Places behind the values keep their contents.
+/// Writes the values of the points of a mesh's cut mesh, and their number. A value has two numerators over the common denominator of the
+/// texture. The order is that of the control points of texture tables. If `out` is too short, the call writes only the number. Places
+/// behind the values keep their contents.
 #[unsafe(no_mangle)]
 pub extern "C" fn far_texture_values(
     alloc: Global,
