@@ -38,7 +38,7 @@ same_place a b = nat_eq a.0 b.0 && nat_eq a.1 b.1
 abbrev pub IsPlaceWithin : List Polygon → ℕ × ℕ → Type 0
 IsPlaceWithin polygons place = place.1 < length (polygon_at polygons place.0)
 
--- The origins of the corners of the child face at a place: the corner, the edge after it, the face, and the edge before the corner.
+-- The origins of the corners of the child face at a place. They are the corner, the edge after it, the face, and the edge before it.
 abbrev pub corner_origins : List Polygon → ℕ × ℕ → List PointOrigin
 corner_origins polygons place =
     FromVertex (get_or (polygon_at polygons place.0) place.1 0)

@@ -6,8 +6,8 @@ use Rattle.subdiv_model.specs.Edges.{all_sides, first_named, faces_of_edge}
 use Rattle.subdiv_model.specs.Sharpness.{Sharpness, Smooth}
 use Rattle.level_topology.specs.View.{faces_of_pair}
 
--- The edges so far: the ends in the direction of their first appearance, the first and last face, the sharpness; and the greatest number of
--- edges.
+-- The edges so far: the ends in the direction of their first appearance, the first and last face, and the sharpness. `limit` is the
+-- greatest number of edges.
 pub record Numbered : Type 0 where
   pub ends : List (ℕ × ℕ)
   pub faces : List (ℕ × ℕ)

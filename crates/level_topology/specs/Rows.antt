@@ -26,7 +26,7 @@ pub record Rows : Type 0 where
   pub edge_vertices : List (ℕ × ℕ)
   pub edge_faces : List (List ℕ)
   pub edge_sharpness : List Sharpness
-  -- for each point its faces and its corner of each, its edges and its end of each, its sharpness, and whether its lists are in fan order
+  -- for each point: faces, its corner of each, edges, its end of each, sharpness, and whether its lists are in fan order
   pub vertex_faces : List (List ℕ)
   pub vertex_faces_at : List (List ℕ)
   pub vertex_edges : List (List ℕ)

@@ -16,10 +16,10 @@ use crate::tables::LevelTables;
 use sharpness_rules::{Method, Sharpness};
 use std::marker::Model;
 
-/// A level in six incidence tables: the corners and edges of each face, the ends and faces of each edge, the faces and edges at each point.
+/// A level in six incidence tables: corners and edges of each face, ends and faces of each edge, faces and edges at each point.
 ///
 /// Points, edges, faces and corners are counted from 0. Edges are numbered as they first appear over faces and corners. The size of a level
-/// never changes, and no accessor takes memory or searches.
+/// never changes. Each accessor needs a number that exists. It takes no memory and does not search.
 #[derive(Drop)]
 pub struct Level {
     pub(crate) tables: LevelTables,
@@ -47,7 +47,7 @@ fn faces_from(pair: (u32, u32)) -> EdgeFaces
 }
 
 impl Level {
-    /// Returns the level with these tables, without a copy.
+    /// Returns the level with these tables, without a copy. They must be the tables of one level.
     pub fn of_tables(tables: LevelTables) -> Level
         requires { AreOfLevel (rows_of tables) }
         ensures { result ≡ topology_of (rows_of tables) }

@@ -1,4 +1,4 @@
-//! Builds a level from lists that the caller knows.
+//! Builds a level from the lists of a caller.
 
 ghost use Rattle.std.specs.Prelude.{◌≡◌, ◌+◌, ◌<◌, ◌≤◌, [], ◌∷◌, ◌++◌, length, map, IfOk, IfSome};
 ghost use Rattle.std.specs.List.{sum_by};
@@ -132,7 +132,7 @@ impl LevelRows {
         self.tables.complete.push_reserved(complete);
     }
 
-    /// Returns the level with exactly these lists.
+    /// Returns the level with exactly these lists. All lists must be put, and they must be those of one level.
     pub fn finish(self) -> Level
         requires all { AreAllPut self }
         requires of_level { AreOfLevel self }

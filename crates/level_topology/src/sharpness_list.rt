@@ -1,4 +1,5 @@
-//! A sharpness for each of many items, most of them smooth: four bytes for each item, and one value for each item that is not smooth.
+//! A sharpness for each of many items, most of them smooth. Each item takes four bytes, and each item that is not smooth takes one value
+//! more.
 
 ghost use Rattle.std.specs.Prelude.{◌≡◌, ℕ, ◌+◌, ◌^◌, ◌<◌, ◌≤◌, ◌⊎◌, [], ◌∷◌, ◌++◌, length, map, get_or, IfOk, vec_len};
 ghost use Rattle.std.specs.Vec.{vec_capacity};
