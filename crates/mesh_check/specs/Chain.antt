@@ -22,7 +22,7 @@ abbrev pub walked : List ℕ → ℕ → ℕ → List ℕ
 walked next zero i = []
 walked next (suc steps) i = i ∷ walked next steps (get_or next i (length next))
 
--- a walk of as many steps as there are items meets only items, and none of them twice
+-- a walk of as many steps as there are items visits only items, and none of them twice
 abbrev pub is_long_walk : List ℕ → ℕ → Bool
 is_long_walk next i = list_all (λ k. nat_lt k (length next)) (walked next (length next) i) && is_distinct (walked next (length next) i)
 
@@ -30,7 +30,7 @@ is_long_walk next i = list_all (λ k. nat_lt k (length next)) (walked next (leng
 abbrev pub IsStart : List ℕ → ℕ → Type 0
 IsStart next s = ((s < length next) × (is_among next s ≡ false)) ⊎ ((s ≡ 0) × ((j : ℕ) → j < length next → is_among next j ≡ true))
 
--- the rest of a walk meets only items, and none that is marked
+-- the rest of a walk visits only items, and none that is marked
 abbrev pub goes_on : ℕ → List ℕ → List ℕ → ℕ → ℕ → Bool
 goes_on mark next marks zero i = true
 goes_on mark next marks (suc steps) i =

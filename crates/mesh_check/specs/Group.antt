@@ -14,8 +14,8 @@ pub record IsGroup (polygons : List Polygon) (v : ℕ) (befores faces afters : L
   pub once : is_distinct faces ≡ true
   pub all : (f : ℕ) → is_among faces f ≡ has_corner v (polygon_at polygons f)
 
--- the decision whether the faces at a vertex are one fan, from the corners before and after it; all faces are simple, and no
--- side occurs twice
+-- The decision whether the faces at a vertex are one fan, from the corners before and after it. All faces are simple, and no
+-- side occurs twice.
 abbrev pub DecidesFan : List ℕ → List ℕ → Bool → Type 0
 DecidesFan befores afters is =
     (polygons : List Polygon) (v : ℕ) (faces : List ℕ) → IsGroup polygons v befores faces afters → IsTrue (list_all is_simple polygons)

@@ -27,7 +27,7 @@ fn start_of(alloc: Global, next: &[u32]) -> Result<usize, Memory>
     Ok(first_bare(&led).unwrap_or(0))
 }
 
-// Returns whether a walk meets all items before it ends or repeats one.
+// Returns whether a walk visits all items before it ends or repeats one.
 fn is_long_walk(alloc: Global, next: &[u32], start: u32) -> Result<bool, Memory>
     ensures { IfOk result (λ long. long ≡ is_long_walk next.now start) }
 {

@@ -50,7 +50,7 @@ fn level_of<L: Ledger>(
 }
 
 // Returns level 0 of a mesh without fault whose sizes are within their limits, unless a vertex has too many edges. The call
-// counts the edges first, so that it builds no level in vain.
+// counts the edges before it builds the level.
 fn small_level<L: Ledger>(
     alloc: Global,
     raw: &RawMesh,

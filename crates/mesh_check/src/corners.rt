@@ -26,7 +26,7 @@ pub(crate) fn small_face(raw: &RawMesh) -> Option<u32>
     None
 }
 
-// Returns whether a face has a vertex twice. It marks the vertices that it meets with the mark of the face.
+// Returns whether a face has a vertex twice. It puts the mark of the face at each vertex that it visits.
 fn has_twice(face: &[u32], marks: &mut Vec<u32>, mark: u32) -> bool
     requires inside { All (λ v. v < length marks.old.items) face.now }
     requires fresh { (v : ℕ) → get_or marks.old.items v 0 < mark }

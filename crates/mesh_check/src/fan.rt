@@ -23,8 +23,8 @@ fn place_in(corners: &[u32], corner: u32) -> u32
     }
 }
 
-// Returns for each face at a vertex the place of the next face about it, from the ascending corners before the vertex and the
-// corners after it.
+// Returns for each face at a vertex the place of the next face about it. The arguments are the ascending corners before the
+// vertex, and the corners after it.
 fn next_places(alloc: Global, befores: &[u32], afters: &[u32]) -> Result<Vec<u32>, Memory>
     requires rises { Rises befores.now }
     requires once { is_distinct befores.now ≡ true }

@@ -1,4 +1,4 @@
-//! The faults of a mesh, and the reasons why a check returns no level.
+//! The faults of a mesh, and the faults of a check.
 
 ghost use Rattle.std.specs.Prelude.{◌≡◌, Some};
 ghost use Rattle.subdiv_model.specs.Fault.{mesh_fault_text, fault_text};
@@ -67,7 +67,7 @@ impl fmt::Display for MeshFault {
 
 impl std::error::Error for MeshFault {}
 
-/// The reason why a check returns no level.
+/// The fault of a check that returns no level.
 #[derive(Clone, Copy, Debug, PartialEq, Eq)]
 pub enum CheckFault {
     /// The mesh is not a manifold.

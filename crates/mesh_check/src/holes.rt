@@ -52,8 +52,7 @@ fn has_marked(marks: &[u32], face: &[u32]) -> bool
     false
 }
 
-// Returns whether a face is a hole, from the marks of the faces that tags name and the marks of the points that hide their
-// faces.
+// Returns whether a face is a hole. `named` marks the faces that tags name, and `hiding` the points that hide their faces.
 fn is_hole(named: &[u32], hiding: &[u32], f: u32, face: &[u32]) -> bool
     ensures { result ≡ (nat_eq (get_or named.now f 0) 1 || list_any (λ v. nat_eq (get_or hiding.now v 0) 1) face.now) }
 {
