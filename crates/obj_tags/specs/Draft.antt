@@ -75,7 +75,8 @@ pub record IsLineAt (all : face.Counts) (number : ℕ) (lines : List Line) (n : 
   pub place : number ≡ suc n
   pub counted : view.counts_of all ≡ counts_of lines
 
--- From the draft of the n lines before it, a line with these words after its keyword gives the draft of n + 1 lines, or its fault.
+-- A line has these words after its keyword. From the draft of the n lines before it, the line gives the draft of n + 1 lines, or its
+-- fault.
 abbrev pub KeepsWords : {X : Type 0} → Survey → ℕ → Keyword → List (List ℕ) → Draft → Draft → Result X LineFault → Type 0
 KeepsWords all number keyword words old new result =
     (lines : List Line) (n : ℕ) (line : Line) → IsLineAt all.counts number lines n line → IsKeywordOf keyword line → drop 1 line ≡ words

@@ -26,7 +26,8 @@ fn capacity_for(count: u32, most: usize) -> usize
 }
 
 impl Draft {
-    /// An empty draft, with capacity for the lines of each kind that `all` counts, as far as a text of `len` bytes can have good ones.
+    /// An empty draft, with capacity for the lines of each kind that `all` counts. A text of `len` bytes limits the capacity to the good
+    /// lines that it can have.
     pub(crate) fn new(alloc: Global, all: Survey, len: usize) -> Result<Draft, AllocError>
         requires { len ≤ 2 ^ 28 }
         ensures { (lines : List Line) → IfOk result (λ draft. IsDraftOf all draft lines 0) }

@@ -12,9 +12,9 @@ use text_pieces::Pieces;
 pub enum ObjCause {
     /// A word that should be a numeral, a decimal or a fraction, is not one.
     BadNumeral,
-    /// A number is out of range: a decimal with more than 37 digits in its mantissa or its decimals, in normal form, or a fraction with
-    /// more in a part. If every line is good by itself, the common denominator of a channel exceeds 10^37 at this line. Or a number of this
-    /// line has more than 37 digits over it.
+    /// A number is out of range. A decimal has more than 37 digits in its mantissa or its decimals, in normal form, or a fraction has more
+    /// in a part. If every line is good by itself, the common denominator of a channel exceeds 10^37 at this line. Or a number of this line
+    /// has more than 37 digits over it.
     NumberRange,
     /// The first word of the line is not a keyword.
     UnknownKeyword,
@@ -30,8 +30,8 @@ pub enum ObjCause {
     BadTag,
     /// A tag names no point or no face.
     TagIndex,
-    /// A sharpness is below 0. Or it is below 10 and too fine: a decimal with more than six decimals, or a fraction with a denominator
-    /// above 10^6 in lowest terms.
+    /// A sharpness is below 0. Or it is below 10 and too fine: it has more than six decimals, or a fraction has a denominator above 10^6 in
+    /// lowest terms.
     SharpnessRange,
     /// A move names no control point. `read_obj` never returns this; it is for lines of moves.
     MoveIndex,

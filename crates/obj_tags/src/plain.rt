@@ -97,7 +97,7 @@ fn are_whole(digits: &[u8], common: u128) -> bool
     digits.len() <= 9 && rest * number_of(digits) % tens == 0
 }
 
-/// Whether the form of a word alone shows that its denominator divides a common denominator.
+/// Whether the form of a word shows that its denominator divides a common denominator.
 ///
 /// Such a word has no exponent and no slash, and the digits after its point are whole over the common denominator.
 pub(crate) fn is_over(word: &[u8], common: u128) -> bool

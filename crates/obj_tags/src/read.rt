@@ -48,7 +48,7 @@ fn keep_lines(alloc: Global, text: &[u8], all: Survey) -> Result<Draft, ReadFaul
     Ok(draft)
 }
 
-// The late line of a channel: the first at which its common denominator exceeds the bound, or the first with a number that is too long.
+// The late line of a channel: the first at which its common denominator exceeds the bound, else the first with a too long number.
 fn late_line(wide: Option<u32>, long: Option<u32>) -> Option<u32>
     ensures { result ≡ spec.late_line wide long }
 {

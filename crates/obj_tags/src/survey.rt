@@ -25,8 +25,8 @@ pub(crate) struct Common {
     pub(crate) wide: Option<u32>,
 }
 
-/// The result of the first pass over a text: the number of lines of each kind, and the common denominators of positions and of texture
-/// values.
+/// The result of the first pass over a text. It has the number of lines of each kind, and the common denominators of positions and of
+/// texture values.
 #[derive(Clone, Copy)]
 pub(crate) struct Survey {
     pub(crate) counts: Counts,
