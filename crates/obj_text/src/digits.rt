@@ -15,7 +15,7 @@ pub(crate) fn is_all_digits(bytes: &[u8]) -> bool
     true
 }
 
-/// Returns the number that the decimal digits spell, or `most` if the number is greater.
+/// Returns the number that the decimal digits spell, or `most` if the number is greater. `most` is below 2^124.
 ///
 /// There may be any number of digits, with leading zeros. The result is `None` for no bytes, and for bytes that are not all digits.
 pub fn digits_up_to(bytes: &[u8], most: u128) -> Option<u128>

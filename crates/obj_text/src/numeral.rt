@@ -29,8 +29,8 @@ pub struct Numeral {
 pub enum NumeralFault {
     /// The word is not a numeral.
     BadNumeral,
-    /// The numeral is too long: a decimal with more than 37 digits in its mantissa or its decimals, in normal form, or a fraction with more
-    /// than 37 digits in a part.
+    /// The numeral is too long. A decimal has more than 37 digits in its mantissa or its decimals, in normal form, or a fraction has more
+    /// in a part.
     NumberRange,
 }
 
