@@ -102,7 +102,7 @@ fn point_marks(alloc: Global, points: u32) -> Result<(Vec<Sharpness>, Vec<bool>)
 }
 
 impl LevelBuilder {
-    /// Returns a builder with `points` points and no faces. `Memory`: memory ran out.
+    /// Returns a builder with `points` points, at most 2^30, and no faces. `Memory`: memory ran out.
     ///
     /// Use `with_key` for meshes from outside: numbers of points can be chosen so that numbering the edges takes long.
     pub fn new(alloc: Global, points: u32, method: Method) -> Result<LevelBuilder, Memory>
@@ -112,7 +112,7 @@ impl LevelBuilder {
         LevelBuilder::with_key(alloc, points, 0, 0, 0, method, 0)
     }
 
-    /// Returns a builder with `points` points, and room for these numbers of faces, of corners of all faces, and of edges.
+    /// Returns a builder with `points` points, at most 2^30. It has room for these numbers of faces, of corners of all faces, and of edges.
     ///
     /// A hash under `key` numbers the edges. Compute the key from the whole mesh with `MeshKey`. Nobody who chooses the mesh can then
     /// choose the collisions, and one mesh always takes the same time. `Memory`: memory ran out.
@@ -143,8 +143,9 @@ impl LevelBuilder {
         })
     }
 
-    /// Adds a face. Its corners are at least three different points, and no earlier face has one of its sides. Its new edges are smooth.
-    /// The call counts one step, whatever its result.
+    /// Adds a face. Its corners are three or more different points, at most 2^16, and no earlier face has one of its sides. There are at
+    /// most 2^22 faces with it, and fewer than 2^28 corners of all faces. Its new edges are smooth. The call counts one step, whatever its
+    /// result.
     ///
     /// `Memory`: memory ran out, and the builder is unchanged.
     pub fn add_face<L: Ledger>(
@@ -223,7 +224,8 @@ impl LevelBuilder {
 
     /// Returns the level: its faces in order, its edges numbered as they first appear over faces and corners, and the lists at each point.
     ///
-    /// The lists are in fan order at points marked complete, and ascend elsewhere. `Memory`: memory ran out, and the builder is dropped.
+    /// The lists are in fan order at points marked complete, whose faces must form one fan, and ascend elsewhere. `Memory`: memory ran out,
+    /// and the builder is dropped.
     pub fn finish(self) -> Result<Level, Memory>
         requires fans { AreFans self }
         ensures level { IfOk result (λ level. level.level ≡ self.level) }
