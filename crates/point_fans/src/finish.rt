@@ -250,8 +250,8 @@ impl NumberedFaces {
 
     /// Returns the level of these faces and edges, with the lists of faces and edges at each point. The call takes linear time.
     ///
-    /// The lists are in fan order at points marked complete, and ascend elsewhere. The level takes over the tables of faces and edges
-    /// without a copy. `Memory`: memory ran out, and the faces are dropped.
+    /// The lists are in fan order at points marked complete, whose faces must form one fan, and ascend elsewhere. The level takes over the
+    /// tables of faces and edges without a copy. `Memory`: memory ran out, and the faces are dropped.
     pub fn finish(self) -> Result<Level, Memory>
         requires fans { AreFans self }
         ensures level { IfOk result (λ level. level.level ≡ self.level) }

@@ -26,7 +26,8 @@ impl Model for NumberedFaces {
 }
 
 impl NumberedFaces {
-    /// Returns the faces of these parts, without a copy and without taking memory. `finish` takes its memory from `alloc`.
+    /// Returns the faces of these parts, which must be those of one level. The call makes no copy and takes no memory. `finish` takes its
+    /// memory from `alloc`.
     pub fn of(alloc: Global, parts: FaceParts) -> NumberedFaces
         requires { AreLevelParts parts }
         ensures { result ≡ built_in parts }
