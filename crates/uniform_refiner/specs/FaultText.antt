@@ -1,4 +1,4 @@
--- The text of the reason why a refinement returns no level.
+-- The text of the fault of a refinement.
 use Rattle.std.specs.Prelude.{ℕ, List, ◌++◌, codes}
 use Rattle.subdiv_model.specs.NumberText.{number_text}
 use Rattle.subdiv_model.specs.Fault as model

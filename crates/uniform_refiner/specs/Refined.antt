@@ -1,4 +1,4 @@
--- The result of a uniform refinement: the next level, or the reason why there is none.
+-- The result of a uniform refinement: the next level, or the fault.
 use Rattle.std.specs.Prelude.{ℕ, ◌≡◌, ◌^◌, ◌<◌, ◌≤◌, true, false, length}
 use Rattle.std.specs.List.{sum_by}
 use Rattle.subdiv_model.specs.Channel.{chaikin_overflows_at}

@@ -1,4 +1,4 @@
-//! The reason why a refinement returns no level.
+//! The fault of a refinement.
 
 ghost use Rattle.std.specs.Prelude.{Some};
 ghost use Rattle.uniform_refiner.specs.FaultText.{fault_text};
@@ -6,7 +6,7 @@ ghost use Rattle.uniform_refiner.specs.FaultText.{fault_text};
 use ratio128::Memory;
 use std::fmt;
 
-/// The reason why a refinement returns no level.
+/// The fault of a refinement that returns no level.
 #[derive(Clone, Copy, Debug, PartialEq, Eq)]
 pub enum RefineFault {
     /// The next level would have this many faces, which is more than 2^22.

@@ -1,4 +1,4 @@
-//! The halves of all edges, or the reason why there is no next level.
+//! The halves of all edges, or the fault of the refinement.
 
 ghost use Rattle.std.specs.Prelude.{◌≡◌, ◌*◌, ◌^◌, ◌≤◌, length, map, MatchResult};
 ghost use Rattle.std.specs.List.{sum_by};

@@ -139,8 +139,8 @@ fn refine_small<L: Ledger>(
     Ok(child)
 }
 
-/// Returns the next uniform level and its tables. Every point of the level must be complete. Each face of the next level is
-/// one step.
+/// Returns the next uniform level and its tables. The level has at most 2^29 points, and each of them is complete. Each face
+/// of the next level is one step.
 ///
 /// Reports `TooLarge` with the number of faces, before it makes anything, where the next level would have more than 2^22.
 /// Reports `Chaikin` with the first vertex, counted from 0, at which halves of edges overflow. Reports `Memory` where memory
