@@ -5,8 +5,8 @@ use Rattle.level_topology.specs.Topology.{Topology}
 use Rattle.level_topology.specs.Child.{ChildTopology}
 use Rattle.sparse_laws.specs.SparseLevels.{SparseLevel, AreInnerComplete}
 
--- some faces of a level; for each its number in the uniform level and whether its parent is selected; the number of steps
--- from level 0
+-- Some faces of a level. Each has its number in the uniform level, and a mark whether its parent is selected. `depth` is the
+-- number of steps from level 0.
 pub record SparseTopology : Type 0 where
   pub topology : Topology
   pub numbers : List ℕ

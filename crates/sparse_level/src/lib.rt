@@ -1,8 +1,8 @@
 //! Provides sparse levels: some faces of a level, each with its number in the uniform level.
 //!
-//! The crate also finds which part of the next level is present: the faces that a rule selects, the corners with child faces,
-//! and the points of these child faces. Source: the sparse refinement of OpenSubdiv's Vtr layer. The choice of the present
-//! faces is this library's own.
+//! The crate also finds which part of the next level is present. It finds the faces that a rule selects, the corners with
+//! child faces, and the points of these child faces. Source: the sparse refinement of OpenSubdiv's Vtr layer. The choice of
+//! the present faces is this library's own.
 #![tactic(auto)]
 
 mod complete;

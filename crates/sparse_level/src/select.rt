@@ -30,8 +30,8 @@ fn is_selected<T: FaceTest, F: Fn(&FaceFacts) -> bool>(
     chosen.holds(&level.face_facts(f, sparse.depth(), sparse.number(f)))
 }
 
-/// Returns a mark for each face of a sparse level: true where the face is inner and the rule selects it. The call asks the
-/// rule only about inner faces.
+/// Returns a mark for each face of a sparse level: true where the face is inner and the rule selects it. The call applies
+/// the rule only to inner faces.
 ///
 /// Reports `Memory` where memory runs out.
 pub fn select_faces<T: FaceTest, F: Fn(&FaceFacts) -> bool>(

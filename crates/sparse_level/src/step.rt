@@ -29,7 +29,7 @@ impl Model for SparseStep {
 
 impl SparseStep {
     /// Returns a step from its parts: a mark for each face of the level before, and a number and a mark for each new face.
-    /// The call takes no memory.
+    /// The parts must be those of one sparse level. The call takes no memory.
     pub fn of(
         child: Child,
         selected: Vec<bool>,
