@@ -77,7 +77,7 @@ pub record IsFirstOn (t : Topology) (selected : List ℕ) (v : ℕ) : Type 0 whe
   pub overflows : OverflowsOn t.level selected v
   pub first : (u : ℕ) → u < v → is_on t.level.polygons selected u ≡ true → chaikin_overflows_at t.level u ≡ false
 
--- the reason why there is no next level for these selected faces
+-- the fault of a refinement with these selected faces
 abbrev pub IsMadeRefusal : Topology → List ℕ → RefineFault → Type 0
 IsMadeRefusal t selected (TooLarge count) = (count ≡ length (places_in t selected)) × (2 ^ 22 < count)
 IsMadeRefusal t selected (Chaikin v) = IsFirstOn t selected v

@@ -1,4 +1,4 @@
--- The result of a sparse refinement: the next sparse level, or the reason why there is none.
+-- The result of a sparse refinement: the next sparse level, or the fault.
 use Rattle.std.specs.Prelude.{ℕ, ◌≡◌, ◌^◌, ◌<◌, ◌≤◌, Bool, true, false, List, length, map, IsTrue}
 use Rattle.std.specs.List.{range_with_len}
 use Rattle.subdiv_model.specs.Polygons.{is_over}

@@ -85,7 +85,7 @@ fn refine_present<L: Ledger>(
 }
 
 /// Returns the next sparse level: the child face of each corner whose vertex lies on a face that the rule selects. The call
-/// asks the rule only about inner faces. Points are numbered as the faces name them first. Each new face is one step.
+/// applies the rule only to inner faces. Points are numbered as the faces name them first. Each new face is one step.
 ///
 /// Reports `TooLarge` with the number of new faces, before it makes anything, where that is more than 2^22. Reports `Chaikin`
 /// with the least vertex on a selected face, counted from 0, at which halves of edges overflow. Reports `Memory` where memory
