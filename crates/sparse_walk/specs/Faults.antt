@@ -1,4 +1,4 @@
--- The reason why sparse levels do not reach a depth: their first fault. Source: this library.
+-- The fault of sparse levels that do not reach a depth: their first fault. Source: this library.
 use Rattle.std.specs.Prelude.{ℕ, ◌≡◌, Bool, [], Some}
 use Rattle.subdiv_model.specs.Lists.{first_of}
 use Rattle.subdiv_model.specs.Level.{Level}
@@ -13,8 +13,8 @@ use Rattle.level_walk.specs.declared.fault.Cause.{Cause}
 use Rattle.level_walk.specs.declared.fault.Cause.TheVariants.{TooManyFaces, Overflow, TooManyEntries, Memory}
 use Rattle.level_walk.specs.declared.fault.WalkFault.{WalkFault}
 
--- this is the first fault of the sparse levels to a depth, of the kinds that count, for each channel of the base; the name of
--- the track is free
+-- This is the first fault of the sparse levels to a depth, of the kinds that count, for each channel of the base. It does not
+-- depend on the name of the track.
 abbrev pub IsFirstFault : Asked → Level → Meeting → ℕ → (Track → Fault) → Type 0
 IsFirstFault asked base meeting depth fault =
     (channel : Channel) → channel.base ≡ base → (track : Track) → first_of (sparse_faults asked channel meeting track depth) ≡ Some (fault track)
@@ -26,7 +26,7 @@ IsFaultAt asked base meeting depth level (Overflow kind) = IsFirstFault asked ba
 IsFaultAt asked base meeting depth level TooManyEntries = IsFirstFault asked base meeting depth (λ track. model.TooLarge (model.Entries level))
 IsFaultAt asked base meeting depth level Memory = Unit {0}
 
--- the reason why the sparse levels by a test do not reach a depth
+-- the fault of the sparse levels by a test that do not reach a depth
 abbrev pub IsSparseFault : Asked → Level → (FaceFacts → Bool) → ℕ → WalkFault → Type 0
 IsSparseFault asked base test depth fault = IsFaultAt asked base (meeting_to test base depth) depth fault.level fault.cause
 

@@ -66,7 +66,7 @@ IsSparseCause test t (cause.Overflow kind.Value) = ⊥
 IsSparseCause test t cause.TooManyEntries = ⊥
 IsSparseCause test t cause.Memory = Unit {0}
 
--- the reason why there is no next level
+-- the cause that there is no next level
 pub record IsRefused (test : feature.FaceFacts → Bool) (parent : Walked) (cause : Cause) (old new : ℕ) : Type 0 where
   pub is : IsSparseCause test parent.sparse cause
   pub steps : ArePresentSteps test parent.sparse old new

@@ -69,7 +69,7 @@ fn put_last<C: Drop>(
 }
 
 impl<C: Drop> Keeping<C> {
-    /// Returns a visitor that has kept nothing, with memory for level 0 and for `depth` levels after it.
+    /// Returns a visitor that has kept nothing, with memory for level 0 and for `depth` levels after it, at most 10.
     ///
     /// Reports `Memory` where memory runs out.
     pub fn with_room(alloc: Global, depth: u32) -> Result<Keeping<C>, Memory>

@@ -29,8 +29,9 @@ fn faces_by_level(alloc: Global, levels: Vec<KeptLevel<()>>) -> Result<Vec<Spars
     Ok(faces)
 }
 
-/// Returns the sparse levels from 0 to `depth`. Level 0 is whole; each further level has the child faces around the faces
-/// that the rule selects. Each face of the levels after level 0 is one step.
+/// Returns the sparse levels from 0 to `depth`, at most 10. Level 0 is whole; each further level has the child faces around
+/// the faces that the rule selects. In level 0 each point is complete, and each edge with one face is infinitely sharp. Each
+/// face of the levels after level 0 is at most one step.
 ///
 /// Reports the fault of the first level that is not reached, counted from 1. `TooManyFaces` has the number of its present
 /// faces, which is above 2^22. `Overflow` has the kind `Chaikin`: halves of edges overflow. `Memory` comes where memory runs
