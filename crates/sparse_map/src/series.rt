@@ -19,8 +19,9 @@ use sparse_walk::{Sparse, WalkedSparse};
 use std::alloc::Global;
 use std::sync::ledger::Ledger;
 
-/// Returns the map of the sparse levels of `base` from 0 to `depth`. Level 0 is whole; each later level contains the children around the
-/// faces that the rule selects. The call counts at most one step for each face of the levels after the first.
+/// Returns the map of the sparse levels of `base` from 0 to `depth`, at most 10. Level 0 is whole; each later level contains the children
+/// around the faces that the rule selects. In level 0 each point is complete, and each edge with one face is infinitely sharp. The call
+/// counts at most one step for each face of the levels after the first.
 ///
 /// The error is the fault of the first level, counted from 1, that the call cannot make:
 ///
