@@ -3,8 +3,8 @@ use Rattle.std.specs.Prelude.{ℕ, ◌≡◌, ◌+◌, ◌<◌, Bool, true, List
 use Rattle.subdiv_model.specs.Polygons.{Polygon, polygon_at, has_corner}
 use Rattle.child_slots.specs.Slots.{first_child, quad_at}
 
--- the places of its faces, each a face and a corner of the level; whether it has a point of the whole next level; the number
--- of a point in the part
+-- A part has the places of its faces, each a face and a corner of the level. `has` decides whether it has a point of the whole
+-- next level, and `number` is the number of a point in the part.
 pub record Part : Type 0 where
   pub places : List (ℕ × ℕ)
   pub has : ℕ → Bool

@@ -1,5 +1,5 @@
--- The slots of the edges of the next level. The two halves of each edge come first. Then each corner of a face has a slot:
--- that of the edge inside the face that begins at the point of the edge after the corner.
+-- The slots of the edges of the next level. The two halves of each edge come first. Then each corner of a face has a slot.
+-- It is that of the edge inside the face that begins at the point of the edge after the corner.
 use Rattle.std.specs.Prelude.{ℕ, ◌+◌, ◌-◌, ◌*◌, nat_eq, List, [], ◌∷◌, length, get_or, take, if◌then◌else◌}
 use Rattle.std.specs.List.{sum_by}
 use Rattle.subdiv_model.specs.Polygons.{Polygon, polygon_at}

@@ -1,8 +1,8 @@
-//! The reason why the halves of edges have no sharpness.
+//! The fault of the halves of edges.
 
 use ratio128::Memory;
 
-/// The reason why the halves of edges have no sharpness.
+/// The fault of halves of edges that get no sharpness.
 #[derive(Clone, Copy, Debug, PartialEq, Eq)]
 pub enum HalfFault {
     /// The halves of semi-sharp edges at this vertex exceed the bounds of a sharpness.
