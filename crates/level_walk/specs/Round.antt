@@ -1,4 +1,4 @@
--- One round of a walk, or the reason why it fails.
+-- One round of a walk, or the cause that it fails.
 use Rattle.std.specs.Prelude.{ℕ, ◌≡◌, ◌⊎◌, Result, MatchResult}
 use Rattle.level_topology.specs.Topology.{Topology}
 use Rattle.level_topology.specs.Child.{ChildTopology}
@@ -6,8 +6,8 @@ use Rattle.level_walk.specs.declared.fault.Cause.{Cause}
 use Rattle.level_walk.specs.declared.fault.Cause.TheVariants.{Memory}
 use Rattle.level_walk.specs.declared.reached.Reached.{Reached}
 
--- from a level and its data to the next level and its data, with the number of steps before, once the level is made, and
--- after
+-- From a level and its data to the next level and its data. The numbers of steps are those before, once the level is made, and
+-- after.
 pub record IsNext {W C : Type 0} (level_of : W → Topology) (Makes : W → ChildTopology → W → ℕ → ℕ → Type 0)
     (Follows : Topology → ChildTopology → C → C → ℕ → ℕ → Type 0) (from next : Reached W C) (old new : ℕ) : Type 0 where
   pub child : ChildTopology
@@ -31,7 +31,7 @@ pub record IsWithoutMemory {W C : Type 0} (level_of : W → Topology) (Makes : W
   pub made : IsNext level_of Makes Follows from next old new
   pub memory : cause ≡ Memory
 
--- the reason why the next level is not reached, with the number of steps before and after
+-- the cause that the next level is not reached, with the number of steps before and after
 abbrev pub IsCause : {W C : Type 0} → (W → Topology) → (W → ChildTopology → W → ℕ → ℕ → Type 0) → (W → Cause → ℕ → ℕ → Type 0)
     → (Topology → ChildTopology → C → C → ℕ → ℕ → Type 0) → (Topology → ChildTopology → C → Cause → ℕ → ℕ → Type 0)
     → Reached W C → Cause → ℕ → ℕ → Type 0
@@ -40,15 +40,15 @@ IsCause level_of Makes Refuses Follows Fails from cause old new =
     ⊎ (IsLeftBehind level_of Makes Fails from cause old new
     ⊎ IsWithoutMemory level_of Makes Follows from cause old new)
 
--- the next level and its data, or the reason why it is not reached
+-- the next level and its data, or the cause that it is not reached
 abbrev pub IsRound : {W C : Type 0} → (W → Topology) → (W → ChildTopology → W → ℕ → ℕ → Type 0) → (W → Cause → ℕ → ℕ → Type 0)
     → (Topology → ChildTopology → C → C → ℕ → ℕ → Type 0) → (Topology → ChildTopology → C → Cause → ℕ → ℕ → Type 0)
     → Reached W C → Result (Reached W C) Cause → ℕ → ℕ → Type 0
 IsRound level_of Makes Refuses Follows Fails from result old new =
     MatchResult result (λ next. IsNext level_of Makes Follows from next old new) (λ cause. IsCause level_of Makes Refuses Follows Fails from cause old new)
 
--- a round in which the visitor also takes the level that is left behind; the last arguments are the result, the visitor and
--- the number of steps before and after
+-- A round in which the visitor also takes the level that is left behind. The last arguments are the result, the visitor and
+-- the number of steps before and after.
 abbrev pub IsTakenRound : {W C V : Type 0} → (W → Topology) → (W → ChildTopology → W → ℕ → ℕ → Type 0) → (W → Cause → ℕ → ℕ → Type 0)
     → (Topology → ChildTopology → C → C → ℕ → ℕ → Type 0) → (Topology → ChildTopology → C → Cause → ℕ → ℕ → Type 0)
     → (W → C → V → Type 0) → Reached W C → Result (Reached W C) Cause → V → ℕ → ℕ → Type 0

@@ -32,8 +32,8 @@ abbrev pub IsWalked : {W C V : Type 0} → (W → Topology) → (W → ChildTopo
     → (V → W → C → V → Type 0) → Place W C V → ℕ → Place W C V → Type 0
 IsWalked level_of Makes Follows Takes start k end = IsAfter (LeadsTo level_of Makes Follows Takes) start k end
 
--- the walk reaches a place before its depth; the fault has the number of the next level and the reason why the walk does not
--- reach it
+-- The walk reaches a place before its depth. The fault has the number of the next level, and the cause that the walk does not
+-- reach it.
 pub record IsStopped {W C V : Type 0} (level_of : W → Topology) (Makes : W → ChildTopology → W → ℕ → ℕ → Type 0) (Refuses : W → Cause → ℕ → ℕ → Type 0)
     (Follows : Topology → ChildTopology → C → C → ℕ → ℕ → Type 0) (Fails : Topology → ChildTopology → C → Cause → ℕ → ℕ → Type 0)
     (Takes : V → W → C → V → Type 0) (start : Place W C V) (depth : ℕ) (fault : WalkFault) (new : ℕ) : Type 0 where

@@ -28,11 +28,12 @@ fn numbered<T>(reached: Result<T, Cause>, number: u32) -> Result<T, WalkFault>
     }
 }
 
-/// Walks `depth` levels from the start. Returns the last level and the data that the carrier brought there. The walk keeps
-/// two levels at a time. Once the next level is made, the visitor takes the level before it, with its data.
+/// Walks `depth` levels from the start. Returns the last level and the data that the carrier brought there. The step must be
+/// ready for that many levels, and the data must fit the start. The walk keeps two levels at a time.
+/// Once the next level is made, the visitor takes the level before it, with its data.
 ///
-/// Reports the cause for the first level that is not reached, with the number of that level, counted from 1. The walk then
-/// drops the level and the data it has. The visitor keeps what it took.
+/// Reports the cause for the first level that is not reached, with its number, counted from 1. The walk then drops the level
+/// and the data it has. The visitor keeps what it took, unless memory ran out for it.
 pub fn walk<S: NextLevel<L>, C: Carrier<L>, V: Visitor<S::Level, C::Carried>, L: Ledger>(
     alloc: Global,
     step: &S,

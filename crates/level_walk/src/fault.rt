@@ -1,4 +1,4 @@
-//! The reason why a walk stops.
+//! The fault of a walk.
 
 use ratio128::Memory;
 
@@ -15,10 +15,10 @@ pub enum OverflowKind {
     Value,
 }
 
-/// The reason why a level is not made, or why the data cannot follow to it. All steps and carriers report these causes.
+/// The cause that a level is not made, or that the data cannot follow to it. All steps and carriers report these causes.
 #[derive(Clone, Copy, Debug, PartialEq, Eq)]
 pub enum Cause {
-    /// The level would have this many faces, which is too many.
+    /// The level would have `count` faces, more than 2^22.
     TooManyFaces { count: u64 },
     /// A number exceeds its bound.
     Overflow(OverflowKind),
@@ -39,8 +39,8 @@ impl From<Memory> for Cause {
     }
 }
 
-/// The reason why a walk stops: the number of the first level that is not reached, counted from 1, and the cause. The number
-/// is 0 where memory runs out outside of the walk.
+/// The fault of a walk that stops: the number of the first level that is not reached, counted from 1, and the cause. The
+/// number is 0 where memory runs out outside of the walk.
 #[derive(Clone, Copy, Debug, PartialEq, Eq)]
 pub struct WalkFault {
     /// The number of the level.

@@ -1,7 +1,7 @@
 //! Walks over the levels of a subdivision with one loop for every kind of level.
 //!
 //! A step (`NextLevel`) makes each level from the one before. A `Carrier` brings data along, such as values or a table. A
-//! `Visitor` takes each level that is left behind. Only two levels are in memory at a time.
+//! `Visitor` takes each level that is left behind. The walk keeps two levels at a time.
 #![tactic(auto)]
 
 mod along;

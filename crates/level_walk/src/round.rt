@@ -12,7 +12,7 @@ use ratio128::Steps;
 use std::alloc::Global;
 use std::sync::ledger::Ledger;
 
-// Returns a level with its data, or the reason why the data cannot follow to it.
+// Returns a level with its data, or the cause that the data cannot follow to it.
 fn joined<W: Drop, C>(level: W, carried: Result<C, Cause>) -> Result<Reached<W, C>, Cause>
     ensures { MatchResult carried (λ carried. result ≡ Ok (record { level = level; carried = carried })) (λ cause. result ≡ Err cause) }
 {
