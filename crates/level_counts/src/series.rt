@@ -1,4 +1,4 @@
-//! The counts of the levels to a depth. One level is in memory at a time.
+//! The counts of the levels to a depth. Two levels are in memory at a time.
 
 ghost use Rattle.std.specs.Prelude.{◌≡◌, ◌^◌, ◌≤◌, true, map, replicate, [], ◌∷◌, ◌++◌, IfOk, MatchResult, OnOk, IsTrue};
 ghost use Rattle.mask_laws.specs.SharpBoundary.{has_sharp_boundary};
@@ -61,7 +61,8 @@ fn with_last(counting: Counting, last: Level) -> Result<Vec<LevelCounts>, Memory
     Ok(all.counts)
 }
 
-/// Returns the counts of each level from 0 to `depth`. The call drops each level once the next one is made. Each face of the
+/// Returns the counts of each level from 0 to `depth`, at most 10. Level 0 has at most 2^27 points. Each of them is complete,
+/// and each edge with one face is infinitely sharp. The call drops each level once the next one is made. Each face of the
 /// levels after level 0 is at most one step.
 ///
 /// Reports the fault of the first level that is not reached, counted from 1. `TooManyFaces` means that it would have more
