@@ -55,8 +55,8 @@ part_of_point level p = numbered_origin level.point_count (length level.polygons
 abbrev pub origin_of_edge : Level → Origins → ℕ × ℕ → Origin
 origin_of_edge level before edge = origin_of_part before (part_of_edge (part_of_point level edge.0) (part_of_point level edge.1))
 
--- the origins of the next level from those of a level: its points are those of vertices, faces and edges; each child face has
--- the origin of its parent
+-- The origins of the next level from those of a level. Its points are those of vertices, faces and edges. Each child face has
+-- the origin of its parent.
 abbrev pub next_origins : Level → Origins → Origins
 next_origins level before = record {
   points = before.points ++ (map OnFace before.faces ++ before.edges);

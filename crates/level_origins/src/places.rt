@@ -24,7 +24,7 @@ pub struct OriginCounts {
 #[repr(C)]
 #[derive(Drop)]
 pub struct OriginPlaces<'a> {
-    /// For each point 0 if it is a point of level 0, 1 if it is inside an edge, and 2 if it is inside a face.
+    /// For each point its kind: 0 for a point of level 0, 1 inside an edge, 2 inside a face.
     pub kinds: &'a mut [u8],
     /// For each point the number of that point, edge or face of level 0, counted from 0.
     pub numbers: &'a mut [u32],

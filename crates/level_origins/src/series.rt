@@ -61,9 +61,9 @@ fn origins_at_end(end: Reached<Level, Origins>) -> Origins
     end.carried
 }
 
-/// Returns the origins of the level at `depth`, at most 10. In level 0 each point is complete, and each edge with one face is
-/// infinitely sharp. The call drops each level once the next one is made. Each face of the levels after level 0 is at most
-/// one step.
+/// Returns the origins of the level at `depth`, at most 10. Level 0 has at most 2^27 points. Each of them is complete, and
+/// each edge with one face is infinitely sharp. The call drops each level once the next one is made. Each face of the levels
+/// after level 0 is at most one step.
 ///
 /// Reports the fault of the first level that is not reached, counted from 1. `TooManyFaces` means that it would have more
 /// than 2^22 faces. `Overflow` has the kind `Chaikin`: halves of edges overflow. `Memory` comes where memory runs out, with
