@@ -13,8 +13,7 @@ use mesh_arrays::MeshArrays;
 use ratio128::{Point3, Valued};
 use std::alloc::Global;
 
-/// Returns the point with this number, counted from 0, of the level of a mesh at a depth of at most 10, or none where the level has fewer
-/// points.
+/// Returns point `number`, counted from 0, of the level of a mesh at a depth of at most 10. It is `None` where the level has fewer points.
 ///
 /// Its coordinates are numerators over its denominator times the common denominator of the mesh. The error is that of `refine_points`.
 pub fn refined_point(
