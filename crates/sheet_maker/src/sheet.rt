@@ -11,8 +11,8 @@ use ratio128::Memory;
 use raw_mesh::RawMesh;
 use std::alloc::Global;
 
-/// Returns a sheet of `size` times `size` quads. Its points are 10 apart in rows and columns, each at a height from 0 to 6 that the seed
-/// draws. Each inner row of edges is a crease whose sharpness the seed draws.
+/// Returns a sheet of `size` times `size` quads; `size` is from 1 to 256. Its points are 10 apart in rows and columns, each at a height
+/// from 0 to 6 that the seed draws. Each inner row of edges is a crease whose sharpness, from 0 to 3, the seed draws.
 ///
 /// Error: `Memory`.
 pub fn make_sheet(alloc: Global, seed: u32, size: u32) -> Result<RawMesh, Memory>
