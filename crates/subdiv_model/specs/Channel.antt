@@ -59,9 +59,9 @@ denominators_after channel k = refined_denominators channel.base channel.scheme 
 abbrev pub greatest_denominator : Channel → ℕ → ℕ
 greatest_denominator channel k = fold max 1 (denominators_after channel k)
 
--- The levels of a track, whole or sparse, as far as their numbers matter. Each level has its points that have a point in the next
--- level, the denominators of its points, and the number of entries of its table. All share the scheme and the greatest whole
--- number that multiplies a denominator.
+-- The levels of a track, whole or sparse, as far as their numbers matter. `asked` has the points of a level that have a point
+-- in the next one. Each level also has the denominators of its points, and the number of entries of its table. All share the
+-- scheme and the greatest whole number that multiplies a denominator.
 pub record TrackLevels : Type 0 where
   pub scheme : Scheme
   pub most : ℕ

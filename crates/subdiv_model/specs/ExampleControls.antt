@@ -61,8 +61,8 @@ abbrev pub octahedron_vertex_terms : List Term
 octahedron_vertex_terms =
     weigh_points 20 (4 ∷ []) ++ (weigh_points 3 (1 ∷ 0 ∷ []) ++ (weigh_points 1 (2 ∷ 3 ∷ []) ++ weigh_faces 1 (0 ∷ 1 ∷ 2 ∷ 3 ∷ [])))
 
--- the terms of the patch mask of the middle quad of the sheet at its first corner: 16 for the corner, 4 for each neighbour along an
--- edge, 1 for each other point of the faces at the corner
+-- The terms of the patch mask of the middle quad of the sheet at its first corner. The weights are 16 for the corner, 4 for each
+-- neighbour along an edge, and 1 for each other point of its faces.
 abbrev pub patch_corner_terms : List Term
 patch_corner_terms =
     weigh 1 (OfPoint 0) ∷ weigh 4 (OfPoint 1) ∷ weigh 1 (OfPoint 2) ∷ weigh 4 (OfPoint 4) ∷ weigh 16 (OfPoint 5) ∷ weigh 4 (OfPoint 6)

@@ -32,7 +32,7 @@ pub data Track : Type 0 where
   -- the rows of the patch
   Patch : Track
 
--- why a point has no limit point, with the number of the point
+-- the fault of a point without limit point, with its number
 pub data LimitCause : Type 0 where
   -- exactly one infinitely sharp edge ends at the point
   Dart : ℕ → LimitCause
@@ -50,7 +50,7 @@ pub data OverflowKind : Type 0 where
   -- a numerator over the greatest common denominator
   ValueOverflow : OverflowKind
 
--- why a place on a level has no answer
+-- the fault of a place that has no answer
 pub data PlaceFault : Type 0 where
   -- the level has this number of faces, and the face does not exist
   NoFace : ℕ → PlaceFault
@@ -147,7 +147,7 @@ table_cause_text Count = codes "table entry count"
 abbrev pub table_fault_text : TableFault → List ℕ
 table_fault_text fault = codes "line " ++ (number_text fault.line ++ (codes ": " ++ table_cause_text fault.cause))
 
--- the words of the cause why a point has no limit point
+-- the words of the fault of a point without limit point
 abbrev pub limit_cause_text : LimitCause → List ℕ
 limit_cause_text (Dart v) = codes "vertex " ++ (number_text v ++ codes " is a dart")
 limit_cause_text (SemiSharp v) = codes "vertex " ++ (number_text v ++ codes " is semi-sharp")

@@ -84,7 +84,7 @@ leaf_of grid depth base meeting at = get_or (leaves_within grid depth base meeti
 abbrev pub is_corner_of : ℕ → ℕ → Bool
 is_corner_of size corner = if nat_eq size 4 then nat_eq corner 0 else nat_lt corner size
 
--- why a face of level 0 has no places: it does not exist, it has no places with this corner, or it is a hole
+-- the faults of a face of level 0 without places: it does not exist, has no places with this corner, or is a hole
 abbrev pub location_faults : Level → ℕ → ℕ → List Fault
 location_faults base face corner =
     if nat_lt face (length base.polygons)

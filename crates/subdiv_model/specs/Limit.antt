@@ -1,6 +1,6 @@
 -- Limit points: the points of the limit surface at the points of a level of quads.
 -- Source: Halstead, Kass and DeRose 1993 for smooth points; the knot averages of the uniform cubic B-spline for points of a
--- crease; which points have no limit mask is Drillolive's.
+-- crease. Which points have no limit mask is Drillolive's.
 use Rattle.std.specs.Prelude.{ℕ, ◌+◌, ◌*◌, ◌%◌, Bool, ◌||◌, nat_eq, nat_lt, ℤ, List, [], ◌∷◌, ◌++◌, length, map, get_or, max, Result, Ok, Err, if◌then◌else◌}
 use Rattle.std.specs.List.{list_all, list_any, flat_map, fold, sum_by, range_with_len, position_or_len}
 use Rattle.subdiv_model.specs.Lists.{places}
@@ -52,7 +52,7 @@ crease_limit_mask v first second = mask_of (weigh 4 (OfPoint v) ∷ weigh_points
 abbrev pub unless_semi_sharp : ℕ → Bool → Result Mask LimitCause → Result Mask LimitCause
 unless_semi_sharp v semi limit = if semi then Err (SemiSharp v) else limit
 
--- the limit mask of a point by its lasting rule, or why it has none
+-- the limit mask of a point by its lasting rule, or the fault that it has none
 abbrev pub limit_of_rule : ℕ → List ℕ → List ℕ → Bool → Rule → Result Mask LimitCause
 limit_of_rule v ends opposites semi CornerRule = Ok (corner_mask v)
 limit_of_rule v ends opposites semi DartRule = unless_semi_sharp v semi (Err (Dart v))
@@ -60,7 +60,7 @@ limit_of_rule v ends opposites semi (CreaseRule first second) =
     unless_semi_sharp v semi (Ok (crease_limit_mask v (get_or ends first 0) (get_or ends second 0)))
 limit_of_rule v ends opposites semi SmoothRule = unless_semi_sharp v semi (Ok (smooth_limit_mask v ends opposites))
 
--- the limit mask of a point over the points of its level, or why it has none
+-- the limit mask of a point over the points of its level, or the fault that it has none
 abbrev pub limit_of : Level → ℕ → Result Mask LimitCause
 limit_of level v =
     limit_of_rule v (ends_at level v) (opposites_at level v) (has_semi_sharp (vertex_sharpness_of level v) (ring_at level v))
@@ -79,12 +79,12 @@ limit_mask level v = mask_or_itself v (limit_of level v)
 abbrev pub limit_masks : Level → List Mask
 limit_masks level = map (limit_mask level) (range_with_len 0 level.point_count)
 
--- the causes why points have no limit mask, by point
+-- the fault of a result without limit mask, in a list
 abbrev pub cause_of_limit : Result Mask LimitCause → List LimitCause
 cause_of_limit (Ok mask) = []
 cause_of_limit (Err cause) = cause ∷ []
 
--- the causes of all points of a level without a limit mask, by point
+-- the faults of all points of a level without a limit mask, by point
 abbrev pub limit_causes : Level → List LimitCause
 limit_causes level = flat_map (λ v. cause_of_limit (limit_of level v)) (range_with_len 0 level.point_count)
 

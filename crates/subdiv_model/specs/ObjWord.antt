@@ -17,7 +17,7 @@ is_far_exponent word =
 abbrev pub is_past_range : List ℕ → Bool
 is_past_range word = nat_lt 0 (number_of_digits (all_digits word)) && is_far_exponent word
 
--- The numeral is a fraction with parts of at most 37 digits, or a decimal with at most 37 digits and 37 decimals in normal form.
+-- The numeral is a fraction with parts of at most 37 digits, or a decimal of at most 37 digits and 37 decimals in normal form.
 -- The test of the exponent avoids a huge power.
 abbrev pub is_representable : List ℕ → Bool
 is_representable word = if is_fraction word then is_fraction_in_range word else not (is_past_range word) && is_decimal_in_range word

@@ -108,7 +108,7 @@ abbrev pub patch_entries_after : Channel → ℕ → ℕ → ℕ → ℕ
 patch_entries_after channel k face m =
     sum_by length (patch_supports channel.base.point_count (channel_level channel k) face m (refined_supports channel.base channel.scheme k))
 
--- why there is no patch: the face does not exist, or is not a regular inner face
+-- the faults of a face without patch: the face does not exist, or is not a regular inner face
 abbrev pub place_faults : Level → ℕ → List Fault
 place_faults level face =
     if nat_lt face (length level.polygons) then fault_where (not (has_patch level face)) (Place (NotRegular face))
