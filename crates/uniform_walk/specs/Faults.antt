@@ -1,4 +1,4 @@
--- The reason why a channel does not reach a depth: the first fault of its levels. `Asked` chooses the faults that count:
+-- The fault of a channel that does not reach a depth: the first fault of its levels. `Asked` chooses the faults that count:
 -- those of sharpness, also those of values, or also those of tables. Source: this library.
 use Rattle.std.specs.Prelude.{ℕ, ◌≡◌, ◌-◌, ◌^◌, ◌<◌, ◌≤◌, [], length, Some}
 use Rattle.std.specs.List.{sum_by}
@@ -21,7 +21,7 @@ pub record IsTooLarge (asked : Asked) (channel : Channel) (depth level count : �
   pub count_is : count ≡ sum_by length (channel_level channel (level - 1)).polygons
   pub many : 2 ^ 22 < count
 
--- this is the first fault of the levels to a depth, of the kinds that count; the name of the track is free
+-- This is the first fault of the levels to a depth, of the kinds that count. It does not depend on the name of the track.
 abbrev pub IsFirstFault : Asked → Channel → ℕ → (Track → Fault) → Type 0
 IsFirstFault asked channel depth fault = (track : Track) → first_of (channel_faults asked channel track depth) ≡ Some (fault track)
 
@@ -36,10 +36,10 @@ IsLevelFault asked channel depth level (Overflow kind) = IsFirstOverflow asked c
 IsLevelFault asked channel depth level TooManyEntries = IsFirstFault asked channel depth (λ track. model.TooLarge (model.Entries level))
 IsLevelFault asked channel depth level Memory = Unit {0}
 
--- the reason why the channel does not reach a depth
+-- the fault of a channel that does not reach a depth
 abbrev pub IsChannelFault : Asked → Channel → ℕ → WalkFault → Type 0
 IsChannelFault asked channel depth fault = IsLevelFault asked channel depth fault.level fault.cause
 
--- the reason why no channel over this level reaches a depth: the first fault of sharpness
+-- the fault of all channels over this level that do not reach a depth: the first fault of sharpness
 abbrev pub IsFaultOfLevels : Level → ℕ → WalkFault → Type 0
 IsFaultOfLevels base depth fault = (channel : Channel) → channel.base ≡ base → IsChannelFault Sharpnesses channel depth fault

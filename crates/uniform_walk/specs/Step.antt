@@ -48,7 +48,7 @@ IsLevelCause level (cause.Overflow kind.Value) = ⊥
 IsLevelCause level cause.TooManyEntries = ⊥
 IsLevelCause level cause.Memory = Unit {0}
 
--- the reason why there is no next level
+-- the cause that there is no next level
 pub record IsRefused (parent : Topology) (cause : Cause) (old new : ℕ) : Type 0 where
   pub is : IsLevelCause parent.level cause
   pub steps : AreFaceSteps parent old new
