@@ -2,7 +2,7 @@
 
 use ratio128::Memory;
 
-/// The reason why [`compose_level`](crate::compose_level) returned no table.
+/// The fault that kept [`compose_level`](crate::compose_level) from a table.
 ///
 /// A later variant is only reported if the whole level has none of the earlier faults. `Memory` can occur at any time.
 #[derive(Clone, Copy, Debug, PartialEq, Eq)]

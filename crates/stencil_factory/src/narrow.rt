@@ -135,8 +135,8 @@ fn put_all_rows<M: PointMasks>(
 
 /// Returns the table of the masks, made in one visit of the masks.
 ///
-/// It returns `None` if a common denominator has more than 64 bits, or if the rows have too many entries: more than three times those
-/// of `table`, or more than 2^27. It composes rows until it finds that out.
+/// It returns `None` if a common denominator has more than 64 bits. It also returns `None` if the rows have more than three times the
+/// entries of `table`, or more than 2^27. It composes rows until it finds that out.
 pub(crate) fn compose_narrow<M: PointMasks>(
     alloc: Global,
     table: &StencilTable,

@@ -2,7 +2,7 @@
 
 use ratio128::Memory;
 
-/// The reason why [`compose_masks`](crate::compose_masks) returned no table.
+/// The fault that kept [`compose_masks`](crate::compose_masks) from a table.
 ///
 /// A later variant is only reported if no row has an earlier fault. `Memory` can occur at any time.
 #[derive(Clone, Copy, Debug, PartialEq, Eq)]

@@ -84,9 +84,13 @@ fn compose_surveyed(
 /// `table` has one row for each point of `parent`. A new row gives the control points that its point depends on, ascending, over
 /// the point's common denominator.
 ///
+/// `child` is a child of `parent`. Each vertex with a child point is complete. Under Catmull and Clark's scheme each edge with a
+/// child point has two faces or a sharpness of at least 1. At a vertex with a child point each edge of one face is then
+/// infinitely sharp, and no half of an edge overflows.
+///
 /// The errors are those of [`TableFault`], checked in the order of its variants.
 ///
-/// The table starts with memory for 16 entries a row. If the rows need more, this counts all entries before the table grows.
+/// The table starts with memory for at most 16 entries a row. If the rows need more, this counts all entries before the table grows.
 pub fn compose_level(
     alloc: Global,
     table: &StencilTable,

@@ -1,5 +1,5 @@
-//! Works on the weights that a caller gave for a mask: finds the common multiple of their denominators, the points they name, and
-//! the amounts they add. It skips weights of 0.
+//! Processes the weights that a caller gave for a mask: their common multiple, the points they name, and the amounts they add. Weights
+//! of 0 are skipped.
 
 ghost use Rattle.std.specs.Prelude.{◌≡◌, ℕ, ◌*◌, ◌/◌, ◌<◌, ◌≤◌, true, [], ◌∷◌, length, map, get_or, OnOk};
 ghost use Rattle.std.specs.List.{All};
@@ -55,8 +55,8 @@ fn is_power(n: u64) -> bool
     n >> n.trailing_zeros() == 1
 }
 
-// Returns the greater of `greatest` and the point's denominator, or 0 if either is 0, or the denominator is no power of two of 64 bits.
-// A weight of 0 leaves `greatest` unchanged.
+// Returns the greater of `greatest` and the point's denominator. Returns 0 if either is 0, or if the denominator is no power of two of
+// 64 bits. A weight of 0 leaves `greatest` unchanged.
 fn power_with(greatest: u64, weight: &(u32, u128), dens: &[u128]) -> u64
     requires { weight.now.0 < length dens.now }
     ensures none { weight.now.1 ≡ 0 → result ≡ greatest }
@@ -72,8 +72,8 @@ fn power_with(greatest: u64, weight: &(u32, u128), dens: &[u128]) -> u64
     greatest.max(den as u64)
 }
 
-// Returns the greatest denominator of the points with a weight above 0, or 0 if one of them is no power of two of 64 bits. Of powers of
-// two the greatest is the least common multiple.
+// Returns the greatest denominator of the points with a weight above 0. Returns 0 if one of them is no power of two of 64 bits. Of powers
+// of two the greatest is the least common multiple.
 fn greatest_power(weights: &[(u32, u128)], dens: &[u128]) -> u64
     requires inside { All (λ share. share.0 < length dens.now) weights.now }
     requires positive { All (λ den. 0 < den) dens.now }
