@@ -1,4 +1,4 @@
--- The terms of the laws of rows: the entries of a range, a row with the controls of its sum, and the controls of the identity.
+-- The terms of the laws of rows: the entries of a range, a row with its controls, and the controls of the identity.
 use Rattle.std.specs.Prelude.{◌≡◌, ℕ, ℤ, pos, List, length, map}
 use Rattle.std.specs.List.{All, range_with_len}
 use Rattle.stencil_apply.specs.Table.{Row, Table, IsRow, entries_of, rows_in}

@@ -16,7 +16,7 @@ use ratio128::Memory;
 use std::alloc::Global;
 use std::marker::Model;
 
-/// A table that gets rows at its end. It knows for how many more rows and entries it has memory.
+/// A table that gets rows at its end. It records for how many more rows and entries it has memory.
 #[derive(Drop)]
 pub struct TableBuilder {
     alloc: Global,

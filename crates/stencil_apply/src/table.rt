@@ -28,7 +28,7 @@ impl Model for StencilTable {
 }
 
 impl StencilTable {
-    /// States what holds for each table.
+    /// States the facts of every table to a proof; at run time it does nothing.
     pub fn facts(&self)
         ensures { IsTable self.now }
     {
