@@ -1,4 +1,4 @@
--- Numbers carried from a level to its child within their bounds, or the first cause why not.
+-- Numbers carried from a level to its child within their bounds, or the first cause that prevents it.
 -- Source: this profile.
 use Rattle.std.specs.Prelude.{ℕ, ◌≡◌, ◌+◌, ◌*◌, ◌<◌, ◌≤◌, true, false, nat_lt, List, length, Result, MatchResult}
 use Rattle.std.specs.List.{list_any}
@@ -34,7 +34,7 @@ pub record IsCarried (most : ℕ) (level : Level) (scheme : Scheme) (origins : L
   pub made : IsTable next
   pub fits : greatest_in next * most ≤ number_bound
 
--- The cause why numbers cannot be carried to points with these common denominators, in rows with this many entries: the first number that
+-- The cause that keeps numbers from points with these common denominators, in rows with this many entries. It is the first number that
 -- passes its bound. Memory may run out at any level.
 abbrev pub IsCarryCause : ℕ → Level → Scheme → List PointOrigin → List ℕ → ℕ → Cause → Type 0
 IsCarryCause most level scheme origins dens entries (Overflow Transition) = (v : ℕ) × IsFirstTransition level scheme origins v

@@ -33,6 +33,8 @@ impl Model for BaseChannel {
 
 impl BaseChannel {
     /// Returns the channel of a level 0. `greatest` is the greatest amount of a control number, `common` the denominator of all of them.
+    /// Both are at most 2^126 - 1. The level is a manifold of at most 2^27 points. Each point is complete, and each edge of one face is
+    /// infinitely sharp.
     pub fn new(level: Level, scheme: Scheme, greatest: u128, common: u128) -> BaseChannel
         requires base { IsBase level }
         requires short { max greatest common ≤ number_bound }
@@ -46,35 +48,35 @@ impl BaseChannel {
         }
     }
 
-    /// Both numbers are at most 2^126 - 1.
+    /// States to a proof that the greatest control number and the common denominator are at most 2^126 - 1; at run time it does nothing.
     pub fn facts(&self)
         ensures { max self.now.greatest self.now.common ≤ number_bound }
     {
         let _ = &self.level;
     }
 
-    /// The scheme.
+    /// Returns the scheme.
     pub fn scheme(&self) -> Scheme
         ensures { scheme_of result ≡ self.now.scheme }
     {
         self.scheme
     }
 
-    /// The greater of the greatest control number and the denominator.
+    /// Returns the greater of the greatest control number and the denominator.
     pub fn most(&self) -> u128
         ensures { result ≡ max self.now.greatest self.now.common }
     {
         self.greatest.max(self.common)
     }
 
-    /// Level 0.
+    /// Returns level 0.
     pub fn level(&self) -> &Level
         ensures { result.now.level ≡ self.now.base }
     {
         &self.level
     }
 
-    /// Gives back level 0 and drops the rest.
+    /// Returns level 0 and drops the rest.
     pub fn into_level(self) -> Level
         ensures base { IsBase result }
         ensures level { result.level ≡ self.base }

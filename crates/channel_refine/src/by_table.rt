@@ -16,7 +16,7 @@ use ratio128::{Memory, Primvar, Steps};
 use std::alloc::Global;
 use std::sync::ledger::Ledger;
 
-// The level with the values of its table over the controls.
+// Returns the level with the values of its table over the controls.
 fn with_values<P: Primvar<L>, L: Ledger>(
     alloc: Global,
     composed: ComposedChannel,

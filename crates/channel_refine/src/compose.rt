@@ -28,7 +28,7 @@ pub struct ComposedChannel {
 }
 
 /// Returns the last level of a channel and the table of its points over the points of level 0. The call composes the table level by level
-/// and keeps two levels at a time. It counts at most one step for each face of the levels from 1 to `depth`.
+/// and keeps two levels at a time. The call counts at most one step for each face of the levels from 1 to `depth`.
 ///
 /// The error is the first fault of the first level, counted from 1, that has no table. Too many faces comes first; then the variants of
 /// [`OverflowKind`](level_walk::OverflowKind) in their order, with `TooManyEntries` before the last. `Memory` has level 0 if memory runs

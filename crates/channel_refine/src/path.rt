@@ -24,7 +24,7 @@ pub enum Path {
     Levels,
 }
 
-// Control numbers as values over 1.
+// Returns control numbers as values over 1.
 fn controls_of<P: Copy + Drop>(alloc: Global, numbers: &[P]) -> Result<Vec<Valued<P>>, Memory>
     ensures { IfOk result (λ controls. controls.items ≡ map control_of numbers.now) }
 {
@@ -38,7 +38,7 @@ fn controls_of<P: Copy + Drop>(alloc: Global, numbers: &[P]) -> Result<Vec<Value
     Ok(controls)
 }
 
-// A channel refined level by level.
+// Returns a channel refined level by level.
 fn refine_by_levels<P: Primvar<L> + Copy, L: Ledger>(
     alloc: Global,
     base: BaseChannel,

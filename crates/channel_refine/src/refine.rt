@@ -27,7 +27,7 @@ pub struct RefinedChannel<P> {
 }
 
 impl<P> RefinedChannel<P> {
-    // A level with its values, or the error of the values.
+    // Returns a level with its values, or the error of the values.
     pub(crate) fn of<E>(
         level: Level,
         values: Result<Vec<Valued<P>>, E>,

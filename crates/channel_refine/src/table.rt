@@ -16,7 +16,7 @@ use std::sync::ledger::Ledger;
 use stencil_apply::{StencilTable, scale_fits};
 use stencil_factory::{TableFault, compose_level};
 
-// The cause of a walk for a fault of a table.
+// Returns the cause of a walk for a fault of a table.
 fn table_cause(fault: TableFault) -> Cause
     ensures { result ≡ cause_of_table fault }
 {
@@ -28,8 +28,8 @@ fn table_cause(fault: TableFault) -> Cause
     }
 }
 
-// The table of the points of a child level. The greatest new denominator times `most` is at most 2^126 - 1, else the call returns the
-// cause.
+// Returns the table of the points of a child level. Returns the cause if there is none, or if its greatest denominator times `most` is
+// above 2^126 - 1.
 fn next_table(
     alloc: Global,
     level: &Level,

@@ -20,7 +20,7 @@ use std::alloc::Global;
 use std::marker::PhantomData;
 use std::sync::ledger::Ledger;
 
-// The greatest denominator of the values, or 1 if there are none.
+// Returns the greatest denominator of the values, or 1 if there are none.
 fn greatest_den<P>(values: &[Valued<P>]) -> u128
     ensures { result ≡ greatest_of (map (λ v. v.den) values.now) }
 {
@@ -31,14 +31,14 @@ fn greatest_den<P>(values: &[Valued<P>]) -> u128
     greatest
 }
 
-// Whether the greatest denominator times an amount is at most 2^126 - 1.
+// Returns whether the greatest denominator times an amount is at most 2^126 - 1.
 fn fits<P>(values: &[Valued<P>], most: u128) -> bool
     ensures { result ≡ nat_le (greatest_of (map (λ v. v.den) values.now) * most) number_bound }
 {
     times_within(greatest_den(values), most, NUMBER_BOUND).is_some()
 }
 
-// The cause of a walk for a fault of values.
+// Returns the cause of a walk for a fault of values.
 fn value_cause(fault: ValueFault) -> Cause
     ensures { result ≡ cause_of_value fault }
 {
@@ -50,8 +50,8 @@ fn value_cause(fault: ValueFault) -> Cause
     }
 }
 
-// The values of the points of a child level. No value of the level has an amount above `most`. The greatest new denominator times `most`
-// is at most 2^126 - 1, else the call returns the cause.
+// Returns the values of the points of a child level. No value of the level has an amount above `most`. Returns the cause if there are no
+// values, or if their greatest denominator times `most` is above 2^126 - 1.
 fn next_values<P: Primvar<L>, L: Ledger>(
     alloc: Global,
     level: &Level,
