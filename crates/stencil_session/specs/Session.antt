@@ -54,7 +54,7 @@ after_move state move = record {
 abbrev pub after_moves : State → List Move → State
 after_moves state moves = fold after_move state moves
 
--- the reason why a control cannot move to numbers
+-- the fault that keeps a control from moving to numbers
 abbrev pub move_fault : Table → Move → Option MoveFault
 move_fault table move =
     if nat_le table.controls move.0 then Some IndexRange

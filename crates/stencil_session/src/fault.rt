@@ -1,4 +1,4 @@
-//! The reason why a control point cannot move.
+//! The fault that keeps a control point from moving.
 
 ghost use Rattle.std.specs.Prelude.{◌≡◌, Some, None, MatchResult};
 ghost use Rattle.stencil_session.specs.Session.{move_fault, numbers_of};
@@ -7,7 +7,7 @@ use ratio128::{Point3, Primvar};
 use std::sync::ledger::Ledger;
 use stencil_apply::{StencilTable, scale_fits};
 
-/// The reason why a control point cannot move.
+/// The fault that keeps a control point from moving.
 #[derive(Clone, Copy, Debug, PartialEq, Eq)]
 pub enum MoveFault {
     /// There is no such control point.
@@ -20,7 +20,7 @@ pub enum MoveFault {
 #[derive(Clone, Copy, Debug, PartialEq, Eq)]
 pub struct TooGreat;
 
-// Returns whether a control can move to a point, or the reason why not.
+// Tests whether a control can move to a point, and returns the fault if it cannot.
 pub(crate) fn test_move<L: Ledger>(
     table: &StencilTable,
     control: u32,

@@ -94,7 +94,7 @@ impl Session {
         })
     }
 
-    /// States what holds for each session.
+    /// States the facts of every session to a proof; at run time it does nothing.
     pub fn facts(&self)
         ensures { IsState self.now }
     {
