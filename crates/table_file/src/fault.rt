@@ -1,4 +1,4 @@
-//! The reason why a text is not a stored table.
+//! The fault that keeps a text from being a stored table.
 
 ghost use Rattle.std.specs.Prelude.{◌≡◌, ◌++◌, codes, Some};
 ghost use Rattle.subdiv_model.specs.Fault.{fault_text, table_cause_text, table_fault_text};
@@ -32,7 +32,7 @@ pub struct TableFault {
     pub cause: TableCause,
 }
 
-/// The reason why a stored table was not read.
+/// The fault that kept a stored table from being read.
 #[derive(Clone, Copy, Debug, PartialEq, Eq)]
 pub enum TableReadFault {
     /// A line is bad; `line` is the first bad line, counted from 1.

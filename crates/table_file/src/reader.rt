@@ -32,7 +32,7 @@ impl Model for ReadTable {
 }
 
 impl ReadTable {
-    /// States what holds for each table that was read.
+    /// States the bounds of every table that was read to a proof; at run time it does nothing.
     pub fn facts(&self)
         ensures controls { self.now.table.controls ≤ 2 ^ 20 }
         ensures rows { length self.now.table.rows ≤ 2 ^ 27 }
