@@ -53,14 +53,14 @@ rule_in t v =
 abbrev pub is_semi_in : Topology → ℕ → Bool
 is_semi_in t v = has_semi_sharp (vertex_sharpness_of t.level v) (ring_in t v)
 
--- the limit mask of a vertex by its rule, or the cause why there is none
+-- the limit mask of a vertex by its rule, or the cause that keeps the vertex from one
 abbrev pub limit_by_rule : ℕ → List ℕ → List ℕ → Bool → LastingRule → Result Mask LimitCause
 limit_by_rule v ends opposites semi SmoothRule = unless_semi_sharp v semi (Ok (smooth_limit_mask v ends opposites))
 limit_by_rule v ends opposites semi (Dart end) = unless_semi_sharp v semi (Err (model.Dart v))
 limit_by_rule v ends opposites semi (Crease first second) = unless_semi_sharp v semi (Ok (crease_limit_mask v first second))
 limit_by_rule v ends opposites semi Corner = Ok (corner_mask v)
 
--- the limit mask, or the cause why there is none
+-- the limit mask, or the cause that keeps the vertex from one
 abbrev pub limit_in : Topology → ℕ → Result Mask LimitCause
 limit_in t v = limit_by_rule v (ends_in t v) (opposites_in t v) (is_semi_in t v) (rule_in t v)
 

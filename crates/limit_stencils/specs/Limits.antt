@@ -35,8 +35,8 @@ pub record IsFirstOther (polygons : List Polygon) (face : ℕ) : Type 0 where
   pub other : length (polygon_at polygons face) ≢ 4
   pub first : (f : ℕ) → f < face → length (polygon_at polygons f) ≡ 4
 
--- The first fault of a level of quads: the least point without a limit mask; the least row whose denominator passes its bound; too many
--- entries. Memory may run out at any step.
+-- The first fault of a level of quads: the least point without a limit mask, the least row whose denominator passes its bound, or too
+-- many entries. Memory may run out at any step.
 abbrev pub IsQuadFault : Level → Table → QuadFault → Type 0
 IsQuadFault level table (quad.Dart v) = (has_quads level ≡ true) × (first_of (limit_causes level) ≡ Some (model.Dart v))
 IsQuadFault level table (quad.SemiSharp v) = (has_quads level ≡ true) × (first_of (limit_causes level) ≡ Some (model.SemiSharp v))

@@ -25,7 +25,7 @@ pub(crate) enum LastingRule {
 }
 
 impl LastingRule {
-    // The rule after one more infinitely sharp edge.
+    // Returns the rule after one more infinitely sharp edge.
     fn with_end(self, end: u32) -> LastingRule
         ensures { result ≡ with_end end self }
     {
@@ -43,7 +43,7 @@ fn is_infinite(s: Sharpness) -> bool
     matches!(s, Sharpness::Infinite)
 }
 
-// The rule after one more edge.
+// Returns the rule after one more edge.
 fn with_edge(level: &Level, v: u32, e: u32, rule: LastingRule) -> LastingRule
     requires { e < length (edges_of level.now.level.polygons) }
     ensures { result ≡ (if is_infinite (get_or level.now.level.edge_sharpness e Smooth) then with_end (end_of_edge level.now.level.polygons v e) rule else rule) }
@@ -55,7 +55,7 @@ fn with_edge(level: &Level, v: u32, e: u32, rule: LastingRule) -> LastingRule
     }
 }
 
-// The rule by the edges, without the sharpness of the vertex. It visits each edge once.
+// Returns the rule by the edges, without the sharpness of the vertex. The call visits each edge once.
 fn rule_of_edges(level: &Level, v: u32) -> LastingRule
     requires { v < level.now.level.point_count }
     ensures { result ≡ rule_of_edges level.now v }
@@ -68,7 +68,7 @@ fn rule_of_edges(level: &Level, v: u32) -> LastingRule
     rule
 }
 
-/// The rule that a vertex keeps at every further level. It takes no memory.
+/// Returns the rule that a vertex keeps at every further level. The call takes no memory.
 pub(crate) fn lasting_rule(level: &Level, v: u32) -> LastingRule
     requires { v < level.now.level.point_count }
     ensures { result ≡ rule_in level.now v }

@@ -1,5 +1,5 @@
-//! The table of the limit points of a level of quads. A limit point is the point of the limit surface to which a point of the level moves
-//! under further steps. The calls compose the limit mask of each point with the rows of the level's points.
+//! Composes the table of the limit points of a level of quads. A limit point is the point of the limit surface to which a point of the
+//! level moves under further steps. The calls compose the limit mask of each point with the rows of the level's points.
 //!
 //! Source: Halstead, Kass and DeRose 1993 for smooth points; the knot averages of the uniform cubic B-spline for points of a crease. This
 //! profile decides which points have no limit mask.

@@ -8,7 +8,7 @@ ghost use Rattle.limit_stencils.specs.Limits.{IsFirstOther};
 
 use level_topology::Level;
 
-/// The least face that does not have four corners, or `None`. The search takes no memory.
+/// Returns the least face that does not have four corners, or `None`. The search takes no memory.
 pub(crate) fn first_other(level: &Level) -> Option<u32>
     ensures { MatchOption result (has_quads level.now.level ≡ true) (IsFirstOther level.now.level.polygons) }
 {
@@ -21,14 +21,14 @@ pub(crate) fn first_other(level: &Level) -> Option<u32>
     None
 }
 
-// The place of the opposite corner of a quad.
+// Returns the place of the opposite corner of a quad.
 fn opposite_place(place: u16) -> usize
     ensures { result ≡ (place + 2) % 4 }
 {
     (usize::from(place) + 2) % 4
 }
 
-/// The corner opposite to a vertex in quad `i` of the vertex.
+/// Returns the corner opposite to a vertex in quad `i` of the vertex.
 pub(crate) fn opposite(level: &Level, v: u32, i: usize) -> u32
     requires known { v < level.now.level.point_count }
     requires quads { has_quads level.now.level ≡ true }

@@ -16,7 +16,7 @@ fn is_semi_sharp(s: Sharpness) -> bool
     matches!(s, Sharpness::Semi(_))
 }
 
-// Whether an edge at the vertex is semi-sharp.
+// Returns whether an edge at the vertex is semi-sharp.
 fn has_semi_edge(level: &Level, v: u32) -> bool
     requires { v < level.now.level.point_count }
     ensures { result ≡ list_any is_semi_sharp (ring_in level.now v) }
@@ -29,7 +29,7 @@ fn has_semi_edge(level: &Level, v: u32) -> bool
     semi
 }
 
-/// Whether the vertex or one of its edges is semi-sharp. The test takes no memory.
+/// Returns whether the vertex or one of its edges is semi-sharp. The test takes no memory.
 pub(crate) fn has_semi_sharp(level: &Level, v: u32) -> bool
     requires { v < level.now.level.point_count }
     ensures { result ≡ is_semi_in level.now v }

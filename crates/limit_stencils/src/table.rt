@@ -17,7 +17,7 @@ use std::alloc::Global;
 use stencil_apply::StencilTable;
 use stencil_factory::{RowFault, compose_masks};
 
-// The fault of the limit table for a fault of its rows.
+// Returns the fault of the limit table for a fault of its rows.
 fn quad_fault(fault: RowFault) -> QuadFault
     ensures { (level : model.Level) (table : Table) → HasLimits level → IsRowFault level (limit_masks level) table fault → IsQuadFault level table result }
 {
@@ -28,7 +28,7 @@ fn quad_fault(fault: RowFault) -> QuadFault
     }
 }
 
-// The fault of a level for a fault of a level of quads.
+// Returns the fault of a level for a fault of a level of quads.
 fn limit_fault(fault: QuadFault) -> LimitFault
     ensures { (level : model.Level) (table : Table) → IsQuadFault level table fault → IsLimitFault level table result }
 {
@@ -41,7 +41,7 @@ fn limit_fault(fault: QuadFault) -> LimitFault
     }
 }
 
-// The limit table of a level in which each point has a limit mask.
+// Returns the limit table of a level in which each point has a limit mask.
 fn limit_rows(alloc: Global, level: &Level, table: &StencilTable) -> Result<StencilTable, QuadFault>
     requires limits { HasLimits level.now.level }
     requires each { length table.now.rows ≡ level.now.level.point_count }
@@ -62,9 +62,9 @@ fn limit_rows(alloc: Global, level: &Level, table: &StencilTable) -> Result<Sten
 /// A smooth point of n edges has weight n², each edge's other end 4 and the opposite corner of each quad 1, over n(n + 5). A point of a
 /// crease has weight 4 and its two neighbours on the crease 1 each, over 6. A corner keeps its place.
 ///
-/// Errors: the least point without a limit mask (`Dart` or `SemiSharp`), `Denominator`, `TooManyEntries`, in this order. `Memory` may
-/// come at any time. A point that is infinitely sharp, has three infinitely sharp edges or has no edge is a corner. A corner has a limit
-/// mask even if something there is semi-sharp.
+/// Errors: the least point without a limit mask (`Dart` or `SemiSharp`), `Denominator`, `TooManyEntries`, in this order. `Memory` may come
+/// at any time. A point that is infinitely sharp, has at least three infinitely sharp edges or has no edge is a corner. A corner has a
+/// limit mask even if something there is semi-sharp.
 pub fn limit_table_of_quads(
     alloc: Global,
     level: &Level,
