@@ -9,7 +9,7 @@ use ratio128::Memory;
 use std::marker::Model;
 use stencil_factory::{PointMasks, PointWeights};
 
-// The place (i, j) of a row of the table.
+// Returns the place (i, j) of a row of the table.
 fn place_of(grid: u32, row: u32) -> (u32, u32)
     requires { grid ≤ 64 }
     ensures { result ≡ (row % (grid + 1), row / (grid + 1)) }

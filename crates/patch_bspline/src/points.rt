@@ -49,7 +49,7 @@ impl PatchPoints {
     }
 }
 
-// The place that follows `place` by `turns` in a cycle of four.
+// Returns the place that follows `place` by `turns` in a cycle of four.
 fn turned(place: usize, turns: usize) -> usize
     requires place { place < 4 }
     requires turns { turns < 4 }
@@ -58,7 +58,7 @@ fn turned(place: usize, turns: usize) -> usize
     (place + turns) % 4
 }
 
-// The first place of a face in a list.
+// Returns the first place of a face in a list.
 fn place_of(faces: &[u32], face: u32) -> usize
     ensures { result ≡ position_or_len (nat_eq face) faces.now }
 {
@@ -86,7 +86,7 @@ fn turned_corner(level: &Level, face: u32, c: usize, v: u32, turns: usize) -> u3
     level.face_vertices(faces[i])[place]
 }
 
-// A corner of a face with the three points around it.
+// Returns a corner of a face with the three points around it.
 fn corner_points(level: &Level, face: u32, c: usize) -> CornerPoints
     requires has { HasPatch level.now.level face }
     requires complete { level.now.complete ≡ replicate level.now.level.point_count true }
@@ -120,7 +120,7 @@ fn rows_around(a: CornerPoints, b: CornerPoints, c: CornerPoints, d: CornerPoint
     }
 }
 
-/// The 16 points of the patch of a face.
+/// Returns the 16 points of the patch of a face.
 pub(crate) fn patch_points(level: &Level, face: u32) -> PatchPoints
     requires has { HasPatch level.now.level face }
     requires complete { level.now.complete ≡ replicate level.now.level.point_count true }

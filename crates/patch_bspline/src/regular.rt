@@ -11,7 +11,7 @@ ghost use Rattle.patch_bspline.specs.Around.{is_marked};
 
 use level_topology::Level;
 
-// Whether an edge is sharp.
+// Returns whether an edge is sharp.
 fn is_sharp_edge(level: &Level, e: u32) -> bool
     requires { e < length (edges_of level.now.level.polygons) }
     ensures { result ≡ is_sharp (edge_sharpness_of level.now.level (edge_at level.now.level.polygons e)) }
@@ -19,7 +19,7 @@ fn is_sharp_edge(level: &Level, e: u32) -> bool
     level.edge_sharpness(e).is_sharp()
 }
 
-// Whether an edge is sharp or has one face.
+// Returns whether an edge is sharp or has one face.
 fn is_marked(level: &Level, e: u32) -> bool
     requires { e < length (edges_of level.now.level.polygons) }
     ensures { result ≡ is_marked level.now.level (edge_at level.now.level.polygons e) }
@@ -27,7 +27,7 @@ fn is_marked(level: &Level, e: u32) -> bool
     level.is_boundary(e) || is_sharp_edge(level, e)
 }
 
-// Whether a point has an edge that is sharp or has one face.
+// Returns whether a point has an edge that is sharp or has one face.
 fn has_marked_edge(level: &Level, v: u32) -> bool
     requires { v < level.now.level.point_count }
     ensures { result ≡ list_any (is_marked level.now.level) (edges_at level.now.level v) }
@@ -41,7 +41,7 @@ fn has_marked_edge(level: &Level, v: u32) -> bool
     false
 }
 
-// Whether a face has four corners.
+// Returns whether a face has four corners.
 fn is_quad(level: &Level, face: u32) -> bool
     requires { face < length level.now.level.polygons }
     ensures { result ≡ is_quad level.now.level face }
@@ -49,7 +49,7 @@ fn is_quad(level: &Level, face: u32) -> bool
     level.face_vertices(face).len() == 4
 }
 
-// Whether a point has exactly four faces, all quads.
+// Returns whether a point has exactly four faces, all quads.
 fn has_four_quads(level: &Level, v: u32) -> bool
     requires { v < level.now.level.point_count }
     ensures { result ≡ (nat_eq (length (faces_at level.now.level v)) 4 && list_all (is_quad level.now.level) (faces_at level.now.level v)) }
@@ -64,7 +64,7 @@ fn has_four_quads(level: &Level, v: u32) -> bool
     faces.len() == 4
 }
 
-// Whether a point is regular: four quads, no sharp edge, no boundary.
+// Returns whether a point is regular: four quads, no sharp edge, no boundary.
 fn is_regular(level: &Level, v: u32) -> bool
     requires { v < level.now.level.point_count }
     ensures { result ≡ is_regular_in_quads level.now.level v }
@@ -78,7 +78,7 @@ fn is_regular(level: &Level, v: u32) -> bool
     has_four_quads(level, v)
 }
 
-/// Whether a face has a patch. The test takes no memory.
+/// Returns whether a face has a patch. The test takes no memory.
 pub(crate) fn has_patch(level: &Level, face: u32) -> bool
     requires { face < length level.now.level.polygons }
     ensures { result ≡ has_patch level.now.level face }

@@ -3,7 +3,7 @@
 ghost use Rattle.std.specs.Prelude.{◌≡◌, ◌*◌, ◌^◌, ◌≤◌, get_or};
 ghost use Rattle.subdiv_model.specs.Patch.{spline_weights};
 
-// The product of three numbers.
+// Returns the product of three numbers.
 fn product(a: u32, b: u32, c: u32) -> u32
     requires a { a ≤ 64 }
     requires b { b ≤ 64 }
@@ -14,7 +14,7 @@ fn product(a: u32, b: u32, c: u32) -> u32
     a * b * c
 }
 
-// The first weight.
+// Returns the first of the four weights at i/m, as a numerator over 6m³.
 fn first_weight(m: u32, i: u32) -> u32
     requires inside { i ≤ m }
     requires few { m ≤ 64 }
@@ -23,7 +23,7 @@ fn first_weight(m: u32, i: u32) -> u32
     product(m - i, m - i, m - i)
 }
 
-// The second weight.
+// Returns the second of the four weights at i/m, as a numerator over 6m³.
 fn second_weight(m: u32, i: u32) -> u32
     requires inside { i ≤ m }
     requires few { m ≤ 64 }
@@ -35,7 +35,7 @@ fn second_weight(m: u32, i: u32) -> u32
     3 * cube + 4 * whole - 6 * square
 }
 
-// The third weight.
+// Returns the third of the four weights at i/m, as a numerator over 6m³.
 fn third_weight(m: u32, i: u32) -> u32
     requires inside { i ≤ m }
     requires few { m ≤ 64 }
@@ -48,7 +48,7 @@ fn third_weight(m: u32, i: u32) -> u32
     3 * square + 3 * single + whole - 3 * cube
 }
 
-// The fourth weight.
+// Returns the fourth of the four weights at i/m, as a numerator over 6m³.
 fn fourth_weight(m: u32, i: u32) -> u32
     requires inside { i ≤ m }
     requires few { m ≤ 64 }
@@ -57,7 +57,7 @@ fn fourth_weight(m: u32, i: u32) -> u32
     product(i, i, i)
 }
 
-/// The four weights of the cubic B-spline at i/m, as numerators over 6m³.
+/// Returns the four weights of the cubic B-spline at i/m, as numerators over 6m³.
 pub(crate) fn spline_weights(m: u32, i: u32) -> [u32; 4]
     requires inside { i ≤ m }
     requires few { m ≤ 64 }
@@ -70,7 +70,7 @@ pub(crate) fn spline_weights(m: u32, i: u32) -> [u32; 4]
     [first, second, third, fourth]
 }
 
-/// The denominator of the product of two weights: 36m⁶.
+/// Returns the denominator of the product of two weights: 36m⁶.
 pub(crate) fn denominator(m: u32) -> u128
     requires { m ≤ 64 }
     ensures { result ≡ 36 * m ^ 6 }

@@ -16,7 +16,7 @@ use std::alloc::Global;
 use stencil_apply::StencilTable;
 use stencil_factory::{RowFault, compose_masks};
 
-// The fault of the patch for a fault of its rows.
+// Returns the fault of the patch for a fault of its rows.
 fn patch_fault(fault: RowFault) -> PatchFault
     ensures { (level : model.Level) (face grid : ℕ) (table : Table) → HasPatch level face → IsRowFault level (patch_masks level face grid) table fault
         → IsPatchFault level face grid table result }
@@ -28,7 +28,7 @@ fn patch_fault(fault: RowFault) -> PatchFault
     }
 }
 
-// The table of a face that has a patch.
+// Returns the table of a face that has a patch.
 fn patch_rows(
     alloc: Global,
     level: &Level,
