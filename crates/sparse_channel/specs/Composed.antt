@@ -21,7 +21,8 @@ use Rattle.sparse_channel.specs.Refined.{SparseRows, meeting_of, present_to}
 abbrev pub rows_at : Table → List ℕ → Table
 rows_at table order = record { controls = table.controls; rows = map (row_at table) order }
 
--- The written points of a level in their order, as rows of its table: the corners of the faces in level 0, all points in a later level.
+-- The written points of a level in their order, as rows of its table. Level 0 writes the corners of its faces, and a later level writes
+-- all points.
 abbrev pub order_at : List ℕ → ℕ → Table → List ℕ
 order_at first zero table = first
 order_at first (suc k) table = range_with_len 0 (length table.rows)
@@ -30,9 +31,9 @@ order_at first (suc k) table = range_with_len 0 (length table.rows)
 abbrev pub HasRows : Table → List ℕ → Type 0
 HasRows table order = list_all (λ row. nat_lt row (length table.rows)) order ≡ true
 
--- The level contains the faces that the definitions write. Its table has a row for each written point: over the point's common
--- denominator in the whole level, and with its value there for any controls. The greatest denominator is within the bound of the
--- channel's numbers.
+-- The level contains the faces that the definitions write. Its table has a row for each written point, over the point's common
+-- denominator in the whole level. The row gives the point's value there for any controls. The greatest denominator is within the bound
+-- of the channel's numbers.
 pub record IsComposedLevel (channel : Channel) (meeting : Meeting) (k : ℕ) (order : List ℕ) (faces : WrittenLevel) (table : Table) : Type 0 where
   pub written : faces ≡ written_level channel.base meeting k
   pub made : IsTable table

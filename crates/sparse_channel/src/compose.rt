@@ -18,7 +18,7 @@ use std::sync::ledger::Ledger;
 use stencil_apply::StencilTable;
 use stencil_factory::identity;
 
-// Level 0 with the table of its own points: the start of the walk.
+// Returns level 0 with the table of its own points: the start of the walk.
 fn start_at(alloc: Global, level: Level) -> Result<Reached<WalkedSparse, StencilTable>, Memory>
     requires { IsBase level }
     ensures { IfOk result (λ start. IsStart level start) }
@@ -29,8 +29,8 @@ fn start_at(alloc: Global, level: Level) -> Result<Reached<WalkedSparse, Stencil
     Ok(Reached { level, carried })
 }
 
-// The sparse levels of a channel from 0 to `depth`, each with the table of its points. It counts at most one step for each face of the
-// levels after the first.
+// Returns the sparse levels of a channel from 0 to `depth`, each with the table of its points. The call counts at most one step for each
+// face of the levels after the first.
 pub(crate) fn compose_sparse<T: FaceTest, F: Fn(&FaceFacts) -> bool, L: Ledger>(
     alloc: Global,
     base: BaseChannel,

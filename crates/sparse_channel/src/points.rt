@@ -44,7 +44,7 @@ fn note_points(
     Ok(())
 }
 
-// The corners of the faces of a level, each once.
+// Returns the corners of the faces of a level, each once.
 pub(crate) fn used_points(alloc: Global, level: &Level) -> Result<Vec<u32>, Memory>
     ensures { IfOk result (λ points. points.items ≡ points_used level.now.level) }
 {

@@ -41,7 +41,7 @@ fn push_rows<P: Primvar<L>, L: Ledger>(
     }
 }
 
-// The value of each chosen row of a table over its denominator. It counts one step for each entry of these rows.
+// Returns the value of each chosen row of a table over its denominator. The call counts one step for each entry of these rows.
 pub(crate) fn evaluate_rows<P: Primvar<L>, L: Ledger>(
     alloc: Global,
     table: &StencilTable,

@@ -13,7 +13,7 @@ use std::alloc::Global;
 use std::sync::ledger::Ledger;
 use stencil_apply::StencilTable;
 
-// Level 0 with the values of its written points.
+// Returns level 0 with the values of its written points.
 fn first_values<P: Primvar<L>, L: Ledger>(
     alloc: Global,
     level: KeptLevel<StencilTable>,
@@ -31,7 +31,7 @@ fn first_values<P: Primvar<L>, L: Ledger>(
     Ok(SparseValues { faces, values })
 }
 
-// A later level with the values of all its points.
+// Returns a later level with the values of all its points.
 fn later_values<P: Primvar<L>, L: Ledger>(
     alloc: Global,
     level: KeptLevel<StencilTable>,
@@ -48,7 +48,7 @@ fn later_values<P: Primvar<L>, L: Ledger>(
     Ok(SparseValues { faces, values })
 }
 
-// A level with the values of its written points. `order` lists the written points of level 0.
+// Returns a level with the values of its written points. `before` levels come before it, and `first` lists the written points of level 0.
 fn level_values<P: Primvar<L>, L: Ledger>(
     alloc: Global,
     level: KeptLevel<StencilTable>,
@@ -90,7 +90,7 @@ fn push_values<P: Primvar<L>, L: Ledger>(
     Ok(())
 }
 
-// All levels with the values of their written points. `order` lists the written points of level 0.
+// Returns all levels with the values of their written points. `first` lists the written points of level 0.
 pub(crate) fn all_values<P: Primvar<L>, L: Ledger>(
     alloc: Global,
     kept: Vec<KeptLevel<StencilTable>>,
