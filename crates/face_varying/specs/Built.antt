@@ -29,8 +29,7 @@ pub record AreFit (points : ℕ) (polygons : List Polygon) : Type 0 where
   pub corners : sum_by length polygons < 2 ^ 28
   pub sizes : All (λ polygon. length polygon ≤ 2 ^ 16) polygons
 
--- a side whose edge in the mesh has this number is infinitely sharp if the faces there are apart, and else as sharp as the
--- edge
+-- the sharpness of a side whose edge in the mesh has this number: infinite if the faces there are apart, else that of the edge
 abbrev pub side_sharpness : Level → List Bool → ℕ → Sharpness
 side_sharpness level apart e = if get_or apart e false then Infinite else get_or level.edge_sharpness e Smooth
 

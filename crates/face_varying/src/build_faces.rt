@@ -21,8 +21,8 @@ fn key_of(level: &Level, numbers: &[u32]) -> u128 {
     key.finish()
 }
 
-// Returns a bound of the number of edges of the cut mesh: one for each edge of the mesh, and one more where the faces there
-// are apart.
+// Returns a bound of the number of edges of the cut mesh. It counts each edge of the mesh once, and once more where the faces
+// there are apart.
 fn most_edges(level: &Level, apart: &[bool]) -> u32 {
     let mut most = level.edges();
     for mark in apart {

@@ -12,8 +12,8 @@ use level_builder::LevelBuilder;
 use level_topology::{Level, corner_after};
 use sharpness_rules::Sharpness;
 
-// Returns the sharpness of a side whose edge in the mesh has this number: infinite if the faces there are apart, or else that
-// of the edge.
+// Returns the sharpness of a side whose edge in the mesh has this number. It is infinite if the faces there are apart, or else
+// that of the edge.
 fn side_sharpness(level: &Level, apart: &[bool], e: u32) -> Sharpness
     requires edge { e < length (edges_of level.now.level.polygons) }
     requires apart { length apart.now ≡ length (edges_of level.now.level.polygons) }

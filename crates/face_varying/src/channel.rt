@@ -6,8 +6,8 @@ use level_topology::Level;
 use ratio128::Point2;
 use std::marker::Model;
 
-/// Level 0 of the cut mesh of a texture channel, and the texture value of each of its points: whole numbers over the
-/// channel's common denominator.
+/// Level 0 of the cut mesh of a texture channel, and the texture value of each of its points. The values are whole numbers
+/// over the channel's common denominator.
 #[derive(Drop)]
 pub struct Channel {
     level: Level,

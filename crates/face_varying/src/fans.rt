@@ -24,8 +24,8 @@ fn corner_in(level: &Level, v: u32, i: usize) -> u32
     level.corner_starts()[face as usize] + u32::from(place)
 }
 
-// Returns the start of the run of the face at this place: the place itself if the face is apart from the face before it, or
-// else the start of the run before.
+// Returns the start of the run of the face at this place. It is the place itself if the face is apart from the face before it.
+// Otherwise it is the start of the run before.
 fn run_start(level: &Level, apart: &[bool], v: u32, i: usize, before: usize) -> usize
     requires vertex { v < level.now.level.point_count }
     requires place { i < face_count level.now v }

@@ -40,8 +40,8 @@ fn is_apart(apart: &[bool], edge: u32) -> bool
     apart.get(edge as usize).copied().unwrap_or(false)
 }
 
-// Marks the ends of the sides of a face at which the faces are apart, from the numbers of its edges in the mesh and the place
-// of its first corner among all corners.
+// Marks the ends of the sides of a face at which the faces are apart. `edges` are the numbers of the face's edges in the mesh.
+// `start` is the place of its first corner among all corners.
 fn mark_face(marks: &mut Vec<bool>, apart: &[bool], numbers: &[u32], start: usize, edges: &[u32])
     requires few { start + length edges.now < 2 ^ 32 }
     ensures { marks.new.items ≡ with_ends (first_ends apart.now numbers.now start edges.now (length edges.now)) marks.old.items }

@@ -13,8 +13,8 @@ use ratio128::Memory;
 use raw_mesh::RawMesh;
 use std::alloc::Global;
 
-// For each edge the texture numbers at its two ends: once from the side that goes along it, once from the side that goes
-// against it. A manifold has at most one of each.
+// For each edge the texture numbers at its two ends: once from the side along it, once from the side against it. A manifold has at most one
+// of each.
 #[derive(Drop)]
 struct SideNumbers {
     along: Vec<(u32, u32)>,
