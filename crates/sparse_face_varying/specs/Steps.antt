@@ -4,7 +4,7 @@ use Rattle.subdiv_model.specs.Channel.{Channel}
 use Rattle.subdiv_model.specs.Sparse.{Meeting}
 use Rattle.sparse_channel.specs.Refined.{present_to, entries_to}
 
--- the call takes at most one step for each face of the levels after the first and one for each entry of the tables of the present points
+-- the call takes at most one step for each face of the levels after the first, and one for each table entry of a present point
 pub record AreMeetingSteps (channel : Channel) (meeting : Meeting) (depth old new : ℕ) : Type 0 where
   pub most : new ≤ old + present_to channel.base meeting depth + entries_to channel meeting depth
   pub later : old ≤ new

@@ -34,21 +34,21 @@ impl FaceTest for ChosenLevels<'_> {
     ghost meets = { λ kept facts. chosen_in (option_map (λ test. map (λ n. n.items) test.levels.now) kept) facts };
 }
 
-// Whether an ascending list contains a number.
+// Returns whether an ascending list contains a number.
 fn has_number(numbers: &[u64], number: u64) -> bool
     ensures { IsStrictlyIncreasing numbers.now → result ≡ is_among numbers.now number }
 {
     numbers.binary_search(&number).is_ok()
 }
 
-/// Whether a face has one of the numbers, which ascend, and is not a hole.
+/// Returns whether a face has one of the numbers, which ascend, and is not a hole.
 pub(crate) fn is_chosen(numbers: &[u64], facts: &FaceFacts) -> bool
     ensures { IsStrictlyIncreasing numbers.now → result ≡ is_chosen numbers.now (facts_of_code facts.now) }
 {
     has_number(numbers, facts.number) && !facts.hole
 }
 
-/// Whether a face has one of the ascending numbers of its level and is not a hole.
+/// Returns whether a face has one of the ascending numbers of its level and is not a hole.
 pub(crate) fn is_chosen_in(levels: &[Vec<u64>], facts: &FaceFacts) -> bool
     ensures { AreAscending (map (λ n. n.items) levels.now)
         → result ≡ is_chosen_in (map (λ n. n.items) levels.now) (facts_of_code facts.now) }

@@ -47,14 +47,14 @@ pub fn selected_numbers(
     Ok(numbers)
 }
 
-// Whether a face is selected.
+// Returns whether a face is selected.
 fn is_selected(kind: FaceKind) -> bool
     ensures { result ≡ is_selected_kind (kind_of kind) }
 {
     matches!(kind, FaceKind::Selected)
 }
 
-// The numbers of the selected faces of a written level, in the order of the faces.
+// Returns the numbers of the selected faces of a written level, in the order of the faces.
 fn written_as_selected(alloc: Global, faces: &SparseFaces) -> Result<Vec<u64>, Memory>
     ensures { IfOk result (λ numbers. numbers.items ≡ selected_numbers faces.now) }
 {
@@ -65,7 +65,7 @@ fn written_as_selected(alloc: Global, faces: &SparseFaces) -> Result<Vec<u64>, M
     Ok(numbers)
 }
 
-// The numbers of the selected faces of each written level.
+// Returns the numbers of the selected faces of each written level.
 fn each_selected<P>(alloc: Global, levels: &[SparseValues<P>]) -> Result<Vec<Vec<u64>>, Memory>
     ensures { IfOk result (λ numbers. map (λ n. n.items) numbers.items ≡ map (λ level. selected_numbers level.faces) levels.now) }
 {

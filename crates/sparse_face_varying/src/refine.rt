@@ -23,7 +23,7 @@ use std::alloc::Global;
 use std::sync::ledger::Ledger;
 
 /// Returns the next sparse level of a channel. The step selects the faces whose number is in `numbers`, which ascend, and that are not
-/// holes. It counts at most one step for each new face.
+/// holes. The call counts at most one step for each new face.
 ///
 /// Errors:
 ///
@@ -50,8 +50,8 @@ pub fn refine_like<L: Ledger>(
 }
 
 /// Returns the sparse levels of a channel from 0 to `depth`. `numbers` lists the faces to select for each level below `depth`: ascending,
-/// and no holes. The call counts at most one step for each face of the levels after the first and one for each entry of the tables of
-/// present points.
+/// and no holes. The call counts at most one step for each face of the levels after the first, and one for each table entry of a present
+/// point.
 ///
 /// `controls` has one value for each point of level 0, as many numbers for each, none above the channel's greatest amount.
 ///
