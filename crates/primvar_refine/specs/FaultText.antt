@@ -1,4 +1,4 @@
--- The text of the reason why values cannot be refined.
+-- The text of the fault that keeps values from being refined.
 use Rattle.std.specs.Prelude.{ℕ, List, ◌++◌, codes}
 use Rattle.subdiv_model.specs.NumberText.{number_text}
 use Rattle.primvar_refine.specs.declared.fault.ValueFault.{ValueFault}

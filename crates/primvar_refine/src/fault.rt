@@ -1,4 +1,4 @@
-//! The reason why values cannot be refined.
+//! The fault that keeps values from being refined.
 
 ghost use Rattle.std.specs.Prelude.{Some};
 ghost use Rattle.primvar_refine.specs.FaultText.{fault_text};
@@ -6,7 +6,7 @@ ghost use Rattle.primvar_refine.specs.FaultText.{fault_text};
 use ratio128::Memory;
 use std::fmt;
 
-/// The reason why there are no values of the next level.
+/// The fault that keeps a level from values.
 #[derive(Clone, Copy, Debug, PartialEq, Eq)]
 pub enum ValueFault {
     /// At this vertex of the parent, the weight between the rules of two levels has a denominator above 2^60.

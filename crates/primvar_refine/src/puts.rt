@@ -1,4 +1,4 @@
-//! The values of the new points of faces.
+//! Values written to their places in the new list.
 
 ghost use Rattle.std.specs.Prelude.{◌≡◌, ◌+◌, ◌<◌, [], length};
 ghost use Rattle.subdiv_model.specs.Mask.{face_mask};

@@ -24,14 +24,18 @@ use std::sync::ledger::Ledger;
 /// mask's terms. Its denominator is that of the mask times the least common multiple of the denominators of its sources. The
 /// numerators are not reduced.
 ///
-/// There is a value for each point of the parent, all with the same number of numerators. Denominators are from 1 to 2^126 -
-/// 1, and numerators are at most that in amount. Each mask term is one step. Each corner of a face is one step too, if some
-/// mask uses the face's new point although no child point comes from it.
+/// There is a value for each point of the parent, all with the same number of numerators. Denominators are from 1 to
+/// 2^126 - 1, and numerators are at most that in amount. Each mask term is one step. Each corner of a face is one step too, if
+/// some mask uses the face's new point although no child point comes from it.
+///
+/// `child` is a child of `parent`. Each vertex with a child point is complete. Under Catmull and Clark's scheme each edge with a
+/// child point has two faces or a sharpness of at least 1. At a vertex with a child point each edge of one face is then
+/// infinitely sharp, and no half of an edge overflows.
 ///
 /// Reports the first fault of these kinds, each over the whole level. `Transition` names the least vertex of the parent, of
 /// those with a child point, whose mask is refused. `Denominator` names the least child point whose denominator is above
 /// 2^126 - 1. `TooBig` comes where the greatest denominator times a bound of the values is above 2^126 - 1. The bound is the
-/// least whole number that no value of the parent exceeds in amount; the error names the first child point with that
+/// least whole number that no value of the parent exceeds in amount. The error names the first child point with that greatest
 /// denominator. Numbers count from 0. Reports `Memory` where memory runs out.
 pub fn refine_values<P: Primvar<L>, L: Ledger>(
     alloc: Global,
