@@ -1,4 +1,4 @@
--- The text of the reason why a vertex has no mask.
+-- The text of the fault that keeps a vertex from a mask.
 use Rattle.std.specs.Prelude.{ℕ, List, codes}
 use Rattle.mask_rules.specs.declared.mask.MaskFault.{MaskFault}
 use Rattle.mask_rules.specs.declared.mask.MaskFault.TheVariants.{Transition, Memory}

@@ -33,7 +33,7 @@ pub struct Term {
     pub weight: u128,
 }
 
-/// The reason why a vertex has no mask.
+/// The fault that keeps a vertex from a mask.
 #[derive(Clone, Copy, Debug, PartialEq, Eq)]
 pub enum MaskFault {
     /// The weight between the masks of two levels has a denominator above 2^60.
