@@ -84,12 +84,12 @@ pub record IsSurveyOf (parent : Topology) (scheme : Scheme) (origins : List Poin
       → get_or survey.named.items f false ≡ list_any (λ mask. has_source mask.terms (OfFace f)) (masks_from parent.level scheme origins)
   pub masks : AreKeptFor parent scheme origins survey.masks
 
--- the reason why a child point has no denominator
+-- the fault that keeps a child point from a denominator
 abbrev pub IsPointFault : Level → Scheme → PointOrigin → SurveyFault → Type 0
 IsPointFault level scheme origin (Transition v) = (origin ≡ FromVertex v) × (transition_overflows_at level scheme v ≡ true)
 IsPointFault level scheme origin (Denominator p) = ⊥
 IsPointFault level scheme origin Memory = Unit {0}
 
--- the vertex has a child point, and this is the reason why it has no mask
+-- the vertex has a child point, and this fault keeps it from a mask
 abbrev pub IsRefusalAt : Level → Scheme → List PointOrigin → ℕ → SurveyFault → Type 0
 IsRefusalAt level scheme origins v fault = IsTrue (has_origin origins (FromVertex v)) × IsPointFault level scheme (FromVertex v) fault

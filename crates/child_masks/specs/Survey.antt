@@ -26,7 +26,7 @@ abbrev pub IsFirstZero : List ℕ → ℕ → Type 0
 IsFirstZero dens p = (p < length dens) × (get_or dens p 1 ≡ 0) × ((q : ℕ) → q < p → get_or dens q 1 ≢ 0)
 
 -- The denominators of the points follow from those before them and are within their bound, and no weight is refused. The
--- denominator of the new point of a face is 0 if it is above the bound; a face is marked where some mask uses it. The masks
+-- denominator of the new point of a face is 0 if it is above the bound. A face is marked where some mask uses it. The masks
 -- of vertices that are not plain are kept.
 pub record IsSurvey (parent : Topology) (scheme : Scheme) (origins : List PointOrigin) (before : List ℕ) (survey : Survey) : Type 0 where
   pub dens : survey.dens.items ≡ dens_from parent.level scheme before origins

@@ -1,8 +1,8 @@
-//! The reason why child points have no masks.
+//! The fault that keeps child points from masks.
 
 use ratio128::Memory;
 
-/// The reason why the child points of a level have no masks, or no common denominators within the bound.
+/// The fault that keeps the child points of a level from masks, or from common denominators within the bound.
 #[derive(Clone, Copy, Debug, PartialEq, Eq)]
 pub enum SurveyFault {
     /// At this vertex of the parent, the weight between the rules of two levels has a denominator above 2^60.

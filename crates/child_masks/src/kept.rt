@@ -11,7 +11,7 @@ use ratio128::Memory;
 use std::alloc::Global;
 use std::marker::Model;
 
-// The end of a mask's terms in the list of all terms, and its denominator.
+// The start and the end of a mask's terms in the list of all terms, and the mask's denominator.
 #[derive(Clone, Copy)]
 pub(crate) struct Kept {
     start: usize,

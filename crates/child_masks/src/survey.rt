@@ -224,8 +224,8 @@ impl Survey {
         }
     }
 
-    /// Returns the mask of child point `p`, counted from 0: a kept one, or one that it makes in `made`. The call takes no
-    /// memory and reads no sharpness of a vertex.
+    /// Returns the mask of child point `p`, counted from 0: a kept one, or one that it makes in `made`. `parent`, `child` and
+    /// `scheme` are those of the survey. The call takes no memory and reads no sharpness of a vertex.
     pub fn mask(
         &self,
         parent: &Level,
@@ -274,6 +274,10 @@ fn fault_of_all(
 }
 
 /// Returns the survey of a child of a level. `dens` has the denominator of each point of the level, from 1 to 2^126 - 1.
+///
+/// `child` is a child of `parent`. Each vertex with a child point is complete. Under Catmull and Clark's scheme each edge with a
+/// child point has two faces or a sharpness of at least 1. At a vertex with a child point each edge of one face is then
+/// infinitely sharp, and no half of an edge overflows.
 ///
 /// Reports the first fault of these kinds, each over the whole level. `Transition` names the least vertex of the parent, of
 /// those with a child point, whose mask is refused. `Denominator` names the least child point whose denominator is above

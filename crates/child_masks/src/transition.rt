@@ -13,7 +13,7 @@ use level_topology::{Child, Level};
 use mask_rules::{MaskFault, Scheme, vertex_mask};
 use std::alloc::Global;
 
-// Returns the reason why a vertex has no mask, if it has a child point.
+// Returns the fault that keeps a vertex from a mask, if the vertex has a child point.
 fn refusal(
     alloc: Global,
     parent: &Level,
