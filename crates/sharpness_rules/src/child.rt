@@ -7,13 +7,13 @@ use crate::{Halves, Semi, SharpOverflow, Sharpness};
 /// The method that gives the two halves of an edge their sharpness.
 #[derive(Clone, Copy, Debug, PartialEq, Eq)]
 pub enum Method {
-    /// Each half by `uniform_child`.
+    /// Each half has the sharpness of `uniform_child`.
     Normal,
-    /// Each half by `chaikin_child`, in the ring of its end vertex.
+    /// Each half has the sharpness of `chaikin_child`, in the ring of its end vertex.
     Chaikin,
 }
 
-// The numerator of the value less 1, and not below 0.
+// Returns the numerator of the value less 1, and not below 0.
 fn lessened(value: Semi) -> u64
     ensures { result ≡ value.num - value.den }
 {

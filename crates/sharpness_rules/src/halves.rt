@@ -60,8 +60,8 @@ impl Halves {
         }
     }
 
-    /// Whether the semi-sharp edges of the ring have no halves. The method is then `Chaikin`, there are at least two such edges, and the
-    /// denominator of their halves exceeds 2^60.
+    /// Returns whether the semi-sharp edges of the ring have no halves. The method is then `Chaikin`, there are at least two such edges,
+    /// and the denominator of their halves exceeds 2^60.
     pub fn overflows(&self) -> bool
         ensures { (method : Method) (ring : List Sharpness) → AreHalves method ring self.now
             → result ≡ halves_overflow method ring }
@@ -76,7 +76,7 @@ impl HalvesRule {
     ghost use Rattle.sharpness_rules.specs.View.{sharpness_of};
     ghost use Rattle.sharpness_rules.specs.Halves.{IsHalvesRuleOfRing, IsHalvesRuleOfValues};
 
-    // The rule of the method `Chaikin` in a ring.
+    // Returns the rule of the method `Chaikin` in a ring.
     fn by_chaikin(ring: &[Sharpness]) -> HalvesRule
         requires short { length ring.now < 2 ^ 32 }
         ensures { IsHalvesRuleOfRing (map sharpness_of ring.now) result }
@@ -87,7 +87,7 @@ impl HalvesRule {
         }
     }
 
-    // The rule of the method `Chaikin` for semi-sharp edges with this sum.
+    // Returns the rule of the method `Chaikin` for semi-sharp edges with this sum.
     fn of_total(total: Total) -> HalvesRule
         requires few { total.count ≤ 2 ^ 32 }
         ensures { (values : List (ℕ × ℕ)) → IsTotal values total → IsHalvesRuleOfValues values result }

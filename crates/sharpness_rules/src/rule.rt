@@ -40,7 +40,7 @@ pub fn vertex_rule(vertex: Sharpness, ring: &[Sharpness]) -> Rule
     }
 }
 
-// The place of the first sharp edge from `from` on.
+// Returns the place of the first sharp edge from `from` on.
 fn next_sharp(ring: &[Sharpness], from: u32) -> Option<u32>
     requires short { length ring.now < 2 ^ 32 }
     requires within { from ≤ length ring.now }

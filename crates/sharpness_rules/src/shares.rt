@@ -8,8 +8,8 @@ use crate::{Semi, Sharpness};
 use ratio128::limits::SHARPNESS_BOUND;
 use ratio128::times_within;
 
-/// The sum of two or more semi-sharp edges at a vertex, and the denominator of their halves: 4(c - 1) times their common denominator, for c
-/// edges.
+/// The sum of two or more semi-sharp edges at a vertex, and the denominator of their halves. For c edges that is 4(c - 1) times their
+/// common denominator.
 #[derive(Clone, Copy)]
 pub struct Shares {
     pub total: Total,

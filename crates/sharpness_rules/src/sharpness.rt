@@ -27,14 +27,14 @@ pub struct Semi {
 }
 
 impl Semi {
-    /// The numerator.
+    /// Returns the numerator.
     pub fn num(&self) -> u64
         ensures { result ≡ self.now.num }
     {
         self.num
     }
 
-    /// The denominator.
+    /// Returns the denominator.
     pub fn den(&self) -> u64
         ensures { result ≡ self.now.den }
     {
@@ -42,7 +42,7 @@ impl Semi {
     }
 }
 
-// The greatest common divisor of a numerator and a denominator. A whole number needs no search.
+// Returns the greatest common divisor of a numerator and a denominator. A whole number needs no search.
 fn common_divisor(num: u64, den: u64) -> u64
     requires { 0 < den }
     ensures { IsGcd num den result }
@@ -76,7 +76,7 @@ impl Sharpness {
         })
     }
 
-    /// Whether the sharpness is above 0.
+    /// Returns whether the sharpness is above 0.
     pub fn is_sharp(&self) -> bool
         ensures { result ≡ is_sharp (sharpness_of self.now) }
     {

@@ -20,8 +20,8 @@ pub fn parts_of(value: Semi, den: u128) -> u128
     value.num() as u128 * (den / value.den() as u128)
 }
 
-// The least common multiple of two denominators, if it is at most 2^60. Whole values and equal denominators skip the common divisor, by far
-// the slowest step.
+// Returns the least common multiple of two denominators, if it is at most 2^60. Whole values and equal denominators need no common
+// divisor.
 fn common_denominator(a: u128, b: u128) -> Option<u128>
     requires a_positive { 0 < a }
     requires b_positive { 0 < b }
@@ -36,7 +36,8 @@ fn common_denominator(a: u128, b: u128) -> Option<u128>
     lcm_within(a, b, SHARPNESS_BOUND)
 }
 
-// The total plus one value if `s` is semi-sharp, and the same total otherwise. `SharpOverflow`: the common denominator exceeds 2^60.
+// Returns the total plus one value if `s` is semi-sharp, and the same total otherwise. `SharpOverflow`: the common denominator exceeds
+// 2^60.
 fn plus(total: Total, s: Sharpness) -> Result<Total, SharpOverflow>
     requires countable { total.count < 2 ^ 32 }
     ensures { (values : List (ℕ × ℕ)) → IsTotal values total
@@ -67,7 +68,7 @@ pub fn total_of_ring(ring: &[Sharpness]) -> Result<Total, SharpOverflow>
     Ok(total)
 }
 
-// The value if it ends: above 0 at this level, and 0 at the next.
+// Returns the value if it ends: above 0 at this level, and 0 at the next.
 fn ended(now: Sharpness, next: Sharpness) -> Sharpness
     ensures { semi_values (sharpness_of result) ≡ ended_value (sharpness_of now, sharpness_of next) }
 {
@@ -78,7 +79,7 @@ fn ended(now: Sharpness, next: Sharpness) -> Sharpness
     }
 }
 
-// The sum of the vertex's value if it ends, and the empty sum otherwise.
+// Returns the sum of the vertex's value if it ends, and the empty sum otherwise.
 fn total_of_vertex(vertex: Sharpness, vertex_child: Sharpness) -> Result<Total, SharpOverflow>
     ensures { Sums (ended_value (sharpness_of vertex, sharpness_of vertex_child)) result }
 {

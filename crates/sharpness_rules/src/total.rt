@@ -12,7 +12,7 @@ pub struct Total {
 }
 
 impl Total {
-    /// The empty sum.
+    /// Returns the empty sum.
     pub fn none() -> Total
         ensures count { result.count ≡ 0 }
         ensures num { result.num ≡ 0 }

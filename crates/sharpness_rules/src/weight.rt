@@ -40,7 +40,7 @@ pub fn transition_weight(
     mean_of(total)
 }
 
-// The mean of the values of the total, at most 1.
+// Returns the mean of the values of the total, at most 1.
 fn mean_of(total: Total) -> Result<Weight, SharpOverflow>
     requires few { total.count ≤ 2 ^ 32 }
     requires above { 0 < total.count → 0 < total.num }
