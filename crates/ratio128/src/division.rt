@@ -1,6 +1,6 @@
 ghost use Rattle.std.specs.Prelude.{◌≡◌, ◌/◌, ◌<◌};
 
-// The quotient of two words of 64 bits. For a power of two it is a shift.
+// Returns the quotient of two words of 64 bits. For a power of two it is a shift.
 fn divide_words(a: u64, b: u64) -> u64
     requires { 0 < b }
     ensures { result ≡ a / b }
@@ -12,7 +12,7 @@ fn divide_words(a: u64, b: u64) -> u64
     a / b
 }
 
-// The quotient by an odd divisor. Where both numbers fit words of 64 bits, words are divided, which is much faster.
+// Returns the quotient by an odd divisor. It divides words of 64 bits where both numbers fit.
 fn divide_by_odd(a: u128, b: u128) -> u128
     requires { 0 < b }
     ensures { result ≡ a / b }

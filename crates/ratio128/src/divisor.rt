@@ -44,7 +44,7 @@ pub fn lowest(num: i128, den: u128) -> Frac
     }
 }
 
-// The amount with the sign of the number.
+// Returns the amount with the sign of the number.
 fn with_sign_of(number: i128, amount: u128) -> i128
     requires { amount < 2 ^ 127 }
     ensures { result ≡ signed_like number amount }

@@ -1,7 +1,7 @@
 ghost use Rattle.std.specs.Prelude.{◌≡◌, ℕ, ◌*◌, ◌%◌, ◌<◌, ◌^◌};
 ghost use Rattle.std.specs.Int.{IsGcd, trailing_zeros, w64, w128};
 
-// The odd part of a number above 0: the number without its factors of two.
+// Returns the odd part of a number above 0: the number without its factors of two.
 pub(crate) fn odd_part(n: u128) -> u128
     requires { 0 < n }
     ensures odd { result % 2 ≡ 1 }
@@ -10,7 +10,7 @@ pub(crate) fn odd_part(n: u128) -> u128
     n >> n.trailing_zeros()
 }
 
-// The odd part of a word above 0: the word without its factors of two.
+// Returns the odd part of a word above 0: the word without its factors of two.
 fn odd_word(word: u64) -> u64
     requires { 0 < word }
     ensures odd { result % 2 ≡ 1 }
@@ -19,7 +19,7 @@ fn odd_word(word: u64) -> u64
     word >> word.trailing_zeros()
 }
 
-// The greatest common divisor of odd words. Each step subtracts and shifts out factors of two, without a division.
+// Returns the greatest common divisor of odd words. Each step subtracts and shifts out factors of two, without a division.
 fn gcd_of_odd_words(a: u64, b: u64) -> u64
     requires left { a % 2 ≡ 1 }
     requires right { b % 2 ≡ 1 }
@@ -35,7 +35,7 @@ fn gcd_of_odd_words(a: u64, b: u64) -> u64
     x
 }
 
-// The greatest common divisor of odd numbers. Euclid's algorithm runs until the lesser number fits a word of 64 bits, then the
+// Returns the greatest common divisor of odd numbers. Euclid's algorithm runs until the lesser number fits a word of 64 bits, then the
 // words are used. Each remainder loses its factors of two, because no odd number has them.
 pub(crate) fn gcd_of_odds(a: u128, b: u128) -> u128
     requires left { a % 2 ≡ 1 }

@@ -34,7 +34,7 @@ pub trait Primvar<L: Ledger>: Drop {
         ensures added { numbers self.new ≡ plus_times weight (numbers self.old) (numbers source.now) }
         ensures step { steps.new ≡ steps.old + 1 };
 
-    /// Adds `weight` times each number of the source in arithmetic of 64 bits, as one step. A type of your own can call
+    /// Adds `weight` times each number of the source in arithmetic of 64 bits, as one step. The default body calls
     /// `add_with_weight`.
     ///
     /// Both lists have the same length. The weight is from 1 to 2^63 - 1. For each number, its amount plus the weight times the
@@ -51,7 +51,7 @@ pub trait Primvar<L: Ledger>: Drop {
     }
 }
 
-// The number plus `weight` times the other.
+// Returns the number plus `weight` times the other.
 fn plus(number: i128, weight: i128, other: i128) -> i128
     requires product { IsKept (weight *ℤ other) }
     requires sum { IsKept (number +ℤ weight *ℤ other) }
@@ -60,7 +60,7 @@ fn plus(number: i128, weight: i128, other: i128) -> i128
     number + weight * other
 }
 
-// The number as a word of 64 bits.
+// Returns the number as a word of 64 bits.
 fn word_of(number: i128) -> i64
     requires { unsigned_abs number < 2 ^ 63 }
     ensures { result ≡ number }
@@ -68,7 +68,7 @@ fn word_of(number: i128) -> i64
     number as i64
 }
 
-// The number plus `weight` times the other, in 64 bits.
+// Returns the number plus `weight` times the other, in 64 bits.
 fn plus_in_word(number: i64, weight: i64, other: i64) -> i64
     requires product { unsigned_abs (weight *ℤ other) < 2 ^ 63 }
     requires sum { unsigned_abs (number +ℤ weight *ℤ other) < 2 ^ 63 }
@@ -77,7 +77,7 @@ fn plus_in_word(number: i64, weight: i64, other: i64) -> i64
     number + weight * other
 }
 
-// The number plus `weight` times the other, where each factor fits 64 bits.
+// Returns the number plus `weight` times the other, where each factor fits 64 bits.
 fn plus_narrow(number: i128, weight: u64, other: i128) -> i128
     requires some { 0 < weight }
     requires short { weight < 2 ^ 63 }
