@@ -35,7 +35,7 @@ impl Model for NumberList {
     ghost view = { λ n. numbers_of n.items };
 }
 
-// The numbers in 128 bits, in a list with at least this capacity.
+// Returns the numbers in 128 bits, in a list with at least this capacity.
 fn widened(alloc: Global, narrow: &Vec<u64>, capacity: usize) -> Result<Vec<u128>, Memory>
     requires { length narrow.now.items ≤ capacity }
     ensures items { IfOk result (λ wide. wide.items ≡ narrow.now.items) }
@@ -97,7 +97,7 @@ impl NumberList {
         Ok(NumberList { items })
     }
 
-    /// How many numbers the list has.
+    /// Returns how many numbers the list has.
     pub fn len(&self) -> usize
         ensures { result ≡ length self.now.items }
     {
@@ -107,7 +107,7 @@ impl NumberList {
         }
     }
 
-    /// The width of the numbers.
+    /// Returns the width of the numbers.
     pub fn width(&self) -> Width
         ensures { result ≡ self.now.width }
     {
@@ -117,7 +117,7 @@ impl NumberList {
         }
     }
 
-    /// The numbers from place `from` up to place `to`, counted from 0; `to` is not included.
+    /// Returns the numbers from place `from` up to place `to`, counted from 0; `to` is not included.
     pub fn range(&self, from: usize, to: usize) -> NumberSlice<'_>
         requires forward { from ≤ to }
         requires inside { to ≤ length self.now.items }

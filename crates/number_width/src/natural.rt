@@ -15,7 +15,7 @@ pub trait Natural: Copy {
         requires { number ≤ most }
         ensures { value result ≡ number };
 
-    /// The value, in 128 bits.
+    /// Returns the value, in 128 bits.
     fn wide(self) -> u128
         ensures { result ≡ value self };
 

@@ -14,7 +14,7 @@ pub enum NumberSlice<'a> {
     Wide(&'a [u128]),
 }
 
-// The number at a place, in 128 bits.
+// Returns the number at a place, in 128 bits.
 fn number_at<T: Natural>(numbers: &[T], at: usize) -> u128
     requires { at < length numbers.now }
     ensures { result ≡ get_or (map T.value numbers.now) at 0 }
@@ -23,7 +23,7 @@ fn number_at<T: Natural>(numbers: &[T], at: usize) -> u128
 }
 
 impl NumberSlice<'_> {
-    /// How many numbers there are.
+    /// Returns how many numbers there are.
     pub fn len(&self) -> usize
         ensures { result ≡ length (numbers_in self.now) }
     {
@@ -33,7 +33,7 @@ impl NumberSlice<'_> {
         }
     }
 
-    /// The number at a place, counted from 0, in 128 bits.
+    /// Returns the number at a place, counted from 0, in 128 bits.
     pub fn get(&self, at: usize) -> u128
         requires { at < length (numbers_in self.now) }
         ensures { result ≡ get_or (numbers_in self.now) at 0 }
