@@ -44,7 +44,7 @@ fn parts_of(size: u64, fraction_bits: u32) -> Parts
     }
 }
 
-// The lowest terms of an odd number of units, doubled `doublings` times. A unit is 1 / 2^unit_bits.
+// Returns the lowest terms of an odd number of units, doubled `doublings` times. A unit is 1 / 2^unit_bits.
 fn terms_of_odd(odd: u128, doublings: u32, unit_bits: u32) -> Option<(u128, u128)>
     requires odd { odd % 2 ≡ 1 }
     requires fits { odd < 2 ^ 64 }
@@ -69,7 +69,7 @@ fn terms_of_odd(odd: u128, doublings: u32, unit_bits: u32) -> Option<(u128, u128
     }
 }
 
-// The lowest terms of a number of units.
+// Returns the lowest terms of a number of units.
 fn terms_of(parts: Parts, unit_bits: u32) -> Option<(u128, u128)>
     requires few { parts.doublings < 2047 }
     requires unit_fits { unit_bits < 2 ^ 12 }
@@ -83,7 +83,7 @@ fn terms_of(parts: Parts, unit_bits: u32) -> Option<(u128, u128)>
     terms_of_odd(amount >> twos, parts.doublings + twos, unit_bits)
 }
 
-// The amount, negative unless the sign is 0.
+// Returns the amount, negative unless the sign is 0.
 fn signed(sign: u64, amount: u128) -> i128
     requires { amount < 2 ^ 127 }
     ensures { result ≡ signed_by sign amount }
@@ -92,7 +92,7 @@ fn signed(sign: u64, amount: u128) -> i128
     if sign == 0 { size } else { -size }
 }
 
-// The fraction of a finite size with a sign.
+// Returns the fraction of a finite size with a sign.
 fn exact(sign: u64, size: u64, fraction_bits: u32, unit_bits: u32) -> Result<Frac, FloatFault>
     requires short { fraction_bits ≤ 52 }
     requires finite { size < 2047 * 2 ^ fraction_bits }

@@ -8,7 +8,7 @@ const SIGN64: u64 = 0x8000_0000_0000_0000;
 
 const SIGN32: u64 = 0x8000_0000;
 
-// The size, with the sign bit if the number is negative.
+// Returns the size, with the sign bit if the number is negative.
 fn with_sign(negative: bool, size: u64, sign: u64) -> u64
     requires { size + sign < 2 ^ 64 }
     ensures { result ≡ (if negative then sign else 0) + size }
@@ -36,8 +36,8 @@ pub fn nearest_binary64(num: i128, den: u128) -> u64
 
 /// Returns the bits of the binary32 number nearest to `num / den`.
 ///
-/// Ties go to the even significand. The number is finite, and 0 has no sign. A fraction below 2^-126 in amount becomes a subnormal number
-/// or 0. `den` is from 1 to 2^127 - 1. `num` is any `i128` but the least.
+/// Ties go to the even significand. The number is finite, and 0 has no sign. A fraction below 2^-126 in amount can become a subnormal
+/// number. `den` is from 1 to 2^127 - 1. `num` is any `i128` but the least.
 pub fn nearest_binary32(num: i128, den: u128) -> u32
     requires positive { 0 < den }
     requires den_fits { den < 2 ^ 127 }

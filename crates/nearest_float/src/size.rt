@@ -9,7 +9,7 @@ struct WideFraction {
     doublings: u32,
 }
 
-// The fraction in units of 1 / 2^unit_bits.
+// Returns the fraction in units of 1 / 2^unit_bits.
 fn widen(amount: u128, den: u128, unit_bits: u32) -> WideFraction
     requires amount { 0 < amount }
     requires amount_fits { amount < 2 ^ 127 }
@@ -43,7 +43,7 @@ fn widen(amount: u128, den: u128, unit_bits: u32) -> WideFraction
 // The least denominator of 127 bits, to which every power of two is widened.
 const LEAST_WIDE: u128 = 0x4000_0000_0000_0000_0000_0000_0000_0000;
 
-// The whole quotient of top * 2^shift by 2^126, and the rest, without a division.
+// Returns the whole quotient of top * 2^shift by 2^126, and the rest, without a division.
 fn shifted_quotient(top: u128, shift: u32) -> (u64, u128)
     requires fits { top < 2 ^ 127 }
     requires short { shift ≤ 52 }
@@ -56,8 +56,8 @@ fn shifted_quotient(top: u128, shift: u32) -> (u64, u128)
     (quotient as u64, rest << shift)
 }
 
-// The whole quotient of top * 2^shift by bottom, and the rest. The first estimate divides by the upper half of bottom, rounded up, and is
-// at most 1 too small.
+// Returns the whole quotient of top * 2^shift by bottom, and the rest. The first estimate divides by the upper half of bottom, rounded up,
+// and is at most 1 too small.
 fn long_quotient(top: u128, bottom: u128, shift: u32) -> (u64, u128)
     requires wide { 2 ^ 126 ≤ bottom }
     requires fits { bottom < 2 ^ 127 }
@@ -79,7 +79,7 @@ fn long_quotient(top: u128, bottom: u128, shift: u32) -> (u64, u128)
     }
 }
 
-// The quotient, with the rest over `bottom` rounded to nearest, ties to even.
+// Returns the quotient, with the rest over `bottom` rounded to nearest, ties to even.
 fn rounded(quotient: u64, rest: u128, bottom: u128) -> u64
     requires few { quotient < 2 ^ 53 }
     requires rest { rest < bottom }
@@ -97,7 +97,7 @@ fn rounded(quotient: u64, rest: u128, bottom: u128) -> u64
     }
 }
 
-// The size of a significand after its doublings. A significand of twice the hidden bit counts one more doubling.
+// Returns the size of a significand after its doublings. A significand of twice the hidden bit counts one more doubling.
 fn size_from(doublings: u64, significand: u64, fraction_bits: u32) -> u64
     requires short { fraction_bits ≤ 52 }
     requires fits { doublings * 2 ^ fraction_bits + significand < 2 ^ 64 }
@@ -106,7 +106,7 @@ fn size_from(doublings: u64, significand: u64, fraction_bits: u32) -> u64
     (doublings << fraction_bits) + significand
 }
 
-// The size of the number that equals the fraction, if the amount fits a significand and the denominator is a power of two.
+// Returns the size of the number that equals the fraction, if the amount fits a significand and the denominator is a power of two.
 fn exact_size(amount: u64, den: u64, fraction_bits: u32, unit_bits: u32) -> Option<u64>
     requires amount { 0 < amount }
     requires den { 0 < den }
@@ -127,7 +127,7 @@ fn exact_size(amount: u64, den: u64, fraction_bits: u32, unit_bits: u32) -> Opti
     Some(size_from(doublings as u64, significand, fraction_bits))
 }
 
-// The size of the number that equals the fraction, if both terms have at most 64 bits and [`exact_size`] finds it.
+// Returns the size of the number that equals the fraction, if both terms have at most 64 bits and [`exact_size`] finds it.
 fn short_size(amount: u128, den: u128, fraction_bits: u32, unit_bits: u32) -> Option<u64>
     requires amount { 0 < amount }
     requires den { 0 < den }
@@ -144,7 +144,7 @@ fn short_size(amount: u128, den: u128, fraction_bits: u32, unit_bits: u32) -> Op
     exact_size(amount as u64, den as u64, fraction_bits, unit_bits)
 }
 
-// The size of the nearest number, in a format without a greatest exponent.
+// Returns the size of the nearest number, in a format without a greatest exponent.
 pub(crate) fn nearest_size(amount: u128, den: u128, fraction_bits: u32, unit_bits: u32) -> u64
     requires amount_fits { amount < 2 ^ 127 }
     requires den { 0 < den }
