@@ -1,4 +1,4 @@
--- What the calls over numbers of either format answer.
+-- The results of the calls over numbers of either format.
 use Rattle.std.specs.Prelude.{ℕ, List, map, Result, MatchResult}
 use Rattle.std.specs.List.{AllZip}
 use Rattle.flat_arrays.specs.declared.wide.Wide.{Wide}

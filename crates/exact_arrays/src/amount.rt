@@ -49,7 +49,7 @@ fn parts_of(size: u64, fraction_bits: u32) -> Parts
     }
 }
 
-// The significand doubled `shift` times, if that is below 2^127.
+// Returns the significand doubled `shift` times, if that is below 2^127.
 fn shifted_up(significand: u64, shift: u32) -> Option<u128>
     requires few { shift < 2 ^ 12 }
     ensures none { IfNone result (2 ^ 127 ≤ significand * 2 ^ shift) }
@@ -67,7 +67,7 @@ fn shifted_up(significand: u64, shift: u32) -> Option<u128>
     }
 }
 
-// The quotient, with the rest over `bottom` rounded to nearest, ties to even.
+// Returns the quotient, with the rest over `bottom` rounded to nearest, ties to even.
 fn half_even(quotient: u64, rest: u64, bottom: u64) -> u64
     requires few { quotient < 2 ^ 53 }
     requires rest { rest < bottom }
@@ -85,7 +85,7 @@ fn half_even(quotient: u64, rest: u64, bottom: u64) -> u64
     }
 }
 
-// The significand halved `shift` times and rounded, and whether that changed it.
+// Returns the significand halved `shift` times and rounded, and whether that changed it.
 fn shifted_down(significand: u64, shift: u32) -> Rounded
     requires small { significand < 2 ^ 53 }
     ensures { IsRounding significand (2 ^ shift) 1 result }
@@ -104,7 +104,7 @@ fn shifted_down(significand: u64, shift: u32) -> Rounded
     }
 }
 
-// A size as a rounded numerator over the grid. A unit is 1 / 2^unit_bits.
+// Returns a size as a rounded numerator over the grid. A unit is 1 / 2^unit_bits.
 fn rounded_amount(parts: Parts, unit_bits: u32, grid_bits: u32) -> Option<Rounded>
     requires small { parts.significand < 2 ^ 53 }
     requires few { parts.doublings < 2047 }
@@ -125,7 +125,7 @@ fn rounded_amount(parts: Parts, unit_bits: u32, grid_bits: u32) -> Option<Rounde
     }
 }
 
-// The amount, negative unless the sign is 0.
+// Returns the amount, negative unless the sign is 0.
 fn signed(sign: u64, amount: u128) -> i128
     requires { amount < 2 ^ 127 }
     ensures { result ≡ signed_by sign amount }
@@ -134,7 +134,7 @@ fn signed(sign: u64, amount: u128) -> i128
     if sign == 0 { size } else { -size }
 }
 
-// A finite size with a sign, as a rounded numerator over the grid.
+// Returns a finite size with a sign, as a rounded numerator over the grid.
 pub(crate) fn rounded_size(
     sign: u64,
     size: u64,

@@ -40,7 +40,7 @@ impl Floats<'_> {
         }
     }
 
-    // The exact fraction of the number at a place.
+    // Returns the exact fraction of the number at a place.
     pub(crate) fn exact(&self, place: usize) -> Result<Frac, FloatFault>
         requires { place < length (bits_of self.now) }
         ensures { MatchResult result (λ x. IsExact (format_of self.now) (bits_at self.now place) x.num x.den) (λ fault. IsRefused (format_of self.now) (bits_at self.now place) fault) }

@@ -65,7 +65,7 @@ fn rounded_single(bits: &[u32], place: usize, grid_bits: u32) -> Result<GridNumb
     rounded_binary32(bits[place], grid_bits)
 }
 
-// The number at a place, rounded.
+// Returns the number at a place, rounded.
 fn rounded_float(numbers: &Floats, place: usize, grid_bits: u32) -> Result<GridNumber, FloatFault>
     requires inside { place < length (bits_of numbers.now) }
     requires grid_fits { grid_bits ≤ 126 }
@@ -77,7 +77,7 @@ fn rounded_float(numbers: &Floats, place: usize, grid_bits: u32) -> Result<GridN
     }
 }
 
-// The number at a place, rounded; an error contains the place.
+// Returns the number at a place, rounded; an error contains the place.
 fn rounded_at(numbers: &Floats, place: usize, grid_bits: u32) -> Result<GridNumber, NumberFault>
     requires inside { place < length (bits_of numbers.now) }
     requires grid_fits { grid_bits ≤ 126 }

@@ -16,7 +16,7 @@ use ratio128::times_within;
 
 const MOST: u128 = (1 << 127) - 1;
 
-// The greater of a scale and the denominator of the number at a place.
+// Returns the greater of a scale and the denominator of the number at a place.
 fn scale_with(numbers: &Floats, place: usize, scale: u128) -> Result<u128, NumberFault>
     requires { place < length (bits_of numbers.now) }
     ensures { MatchResult result (IsScaleWith (format_of numbers.now) (bits_at numbers.now place) scale) (IsRefusedHere (format_of numbers.now) (bits_at numbers.now place) place) }
@@ -27,7 +27,7 @@ fn scale_with(numbers: &Floats, place: usize, scale: u128) -> Result<u128, Numbe
     }
 }
 
-// The least common denominator.
+// Returns the least common denominator.
 fn least_scale(numbers: &Floats) -> Result<u128, NumberFault>
     ensures { MatchResult result (λ scale. IsLeastScale (format_of numbers.now) (bits_of numbers.now) scale) (λ x. IsFirstRefused (format_of numbers.now) (bits_of numbers.now) x.place x.fault) }
 {
@@ -38,7 +38,7 @@ fn least_scale(numbers: &Floats) -> Result<u128, NumberFault>
     Ok(scale)
 }
 
-// The amount, negative if `negative` is true.
+// Returns the amount, negative if `negative` is true.
 fn signed(negative: bool, amount: u128) -> i128
     requires { amount < 2 ^ 127 }
     ensures { result ≡ (if negative then (neg_ℤ (pos amount)) else (pos amount)) }
@@ -47,7 +47,7 @@ fn signed(negative: bool, amount: u128) -> i128
     if negative { -size } else { size }
 }
 
-// The numerator over the scale of the number at a place, if it is below 2^127 in amount.
+// Returns the numerator over the scale of the number at a place, if it is below 2^127 in amount.
 fn numerator_at(numbers: &Floats, place: usize, scale: u128) -> Option<i128>
     requires inside { place < length (bits_of numbers.now) }
     requires positive { 0 < scale }
