@@ -28,7 +28,7 @@ fn bad_corner_tag(tags: &[SharpPoint]) -> Option<usize>
     tags.iter().position(|point| is_bad(point.sharpness_den))
 }
 
-// The first fault of the options, then of the sharpness of creases and corner tags.
+// Returns the first fault of the options, then of the sharpness of creases and corner tags.
 pub(crate) fn first_bad_option(arrays: &MeshArrays) -> Option<ArraysFault>
     ensures { result ≡ bad_option arrays.now }
 {

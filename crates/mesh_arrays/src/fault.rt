@@ -60,7 +60,7 @@ impl From<AllocError> for ArraysFault {
     }
 }
 
-// The fault of the arrays for a fault of their parts.
+// Returns the fault of the arrays for a fault of their parts.
 pub(crate) fn fault_of_parts(fault: PartsFault) -> ArraysFault
     ensures { result ≡ spec.fault_of_parts fault }
 {

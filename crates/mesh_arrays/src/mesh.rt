@@ -55,7 +55,7 @@ fn values_of(alloc: Global, values: &[WideValue]) -> Result<Vec<Point2>, AllocEr
     Ok(all)
 }
 
-// The sharpness of a fraction with a denominator from 1 to 2^60.
+// Returns the sharpness of a fraction with a denominator from 1 to 2^60.
 fn sharpness(num: u64, den: u64) -> Sharpness
     requires { is_bad_denominator den ≡ false }
     ensures { sharpness_of result ≡ sharpness_of_fraction (num, den) }
@@ -63,7 +63,7 @@ fn sharpness(num: u64, den: u64) -> Sharpness
     Sharpness::new(num, den)
 }
 
-// The crease of an edge whose sharpness has a denominator from 1 to 2^60.
+// Returns the crease of an edge whose sharpness has a denominator from 1 to 2^60.
 fn crease(edge: &SharpEdge) -> Crease
     requires { is_bad_denominator edge.now.sharpness_den ≡ false }
     ensures { view.crease_of result ≡ crease_of edge.now }
@@ -86,7 +86,7 @@ fn creases_of(alloc: Global, creases: &[SharpEdge]) -> Result<Vec<Crease>, Alloc
     Ok(all)
 }
 
-// The tag of a point whose sharpness has a denominator from 1 to 2^60.
+// Returns the tag of a point whose sharpness has a denominator from 1 to 2^60.
 fn corner_tag(tag: &SharpPoint) -> CornerTag
     requires { is_bad_denominator tag.now.sharpness_den ≡ false }
     ensures { view.corner_tag_of result ≡ corner_tag_of tag.now }

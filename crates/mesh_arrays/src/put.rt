@@ -54,7 +54,7 @@ pub(crate) fn put_values(values: &[Point2], out: &mut [WideValue])
     }
 }
 
-// A sharpness as a fraction. Infinite sharpness becomes 10.
+// Returns a sharpness as a fraction. Infinite sharpness becomes 10.
 fn fraction_of(sharpness: Sharpness) -> (u64, u64)
     ensures same { sharpness_of_fraction (result.0, result.1) ≡ sharpness_of sharpness }
     ensures good { is_bad_denominator result.1 ≡ false }

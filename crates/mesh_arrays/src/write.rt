@@ -14,7 +14,7 @@ use flat_arrays::{Wide, put_items};
 use raw_mesh::{Boundary, RawMesh};
 use sharpness_rules::Method;
 
-// How many corners all faces have.
+// Returns how many corners all faces have.
 fn count_corners(mesh: &RawMesh) -> u64
     ensures { result ≡ sum_by length mesh.now.faces }
 {
@@ -76,7 +76,7 @@ pub fn options_of(mesh: &RawMesh) -> MeshOptions
     }
 }
 
-/// Whether each array has a place for each of its items.
+/// Returns whether each array has a place for each of its items.
 pub fn are_long_enough(counts: &MeshCounts, places: &MeshPlaces) -> bool
     ensures { result ≡ spec.are_long_enough counts.now places.now }
 {
