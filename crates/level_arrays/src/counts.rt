@@ -20,7 +20,7 @@ pub struct LevelCounts {
     pub corners: u32,
 }
 
-// How many corners all faces have.
+// Returns how many corners all faces have.
 fn corners(level: &Level) -> u32
     ensures { result ≡ sum_by length level.now.level.polygons }
 {

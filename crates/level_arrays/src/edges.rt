@@ -6,7 +6,8 @@ ghost use Rattle.level_arrays.specs.Flat.{ends_of};
 
 use level_topology::Level;
 
-/// Writes both ends of each edge to the start of the array, edge by edge, in the direction in which a face first names the edge.
+/// Writes both ends of each edge to the start of the array, edge by edge. The ends come in the direction in which a face
+/// first names the edge.
 ///
 /// Points are counted from 0. The array has at least two places for each edge, and further places keep their contents.
 pub fn put_edges(level: &Level, out: &mut [u32])

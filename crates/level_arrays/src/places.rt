@@ -23,7 +23,7 @@ pub struct LevelPlaces<'a> {
     pub holes: &'a mut [u8],
 }
 
-// Whether each array has a place for each item.
+// Returns whether each array has a place for each item.
 fn are_long_enough(counts: &LevelCounts, places: &LevelPlaces) -> bool
     ensures { result ≡ spec.are_long_enough counts.now places.now }
 {
