@@ -8,7 +8,7 @@ use crate::row::put_row;
 use crate::rows::{ControlArrays, RowArrays, RowFault, RowRange};
 use flat_arrays::Wide;
 
-// The fault of the range or of an array with this many places.
+// Returns the fault of the range or of an array with this many places.
 fn range_fault(
     rows: &RowArrays,
     controls: &ControlArrays,

@@ -25,7 +25,7 @@ pub struct FractionArrays<'a> {
     pub scale: Wide,
 }
 
-// Whether a denominator times the scale is 0, or 2^127 or more.
+// Returns whether a denominator times the scale is 0, or 2^127 or more.
 fn is_bad_denominator(denominator: &Wide, scale: u128) -> bool
     ensures { result ≡ spec.is_bad_denominator scale denominator.now }
 {
@@ -35,14 +35,14 @@ fn is_bad_denominator(denominator: &Wide, scale: u128) -> bool
     }
 }
 
-// Whether a numerator is -2^127.
+// Returns whether a numerator is -2^127.
 fn is_bad_numerator(numerator: &Wide) -> bool
     ensures { result ≡ spec.is_bad_numerator numerator.now }
 {
     numerator.integer() == i128::MIN
 }
 
-// The place of the first denominator out of range.
+// Returns the place of the first denominator out of range.
 fn bad_denominator(denominators: &[Wide], scale: u128) -> Option<usize>
     ensures { result ≡ position (spec.is_bad_denominator scale) denominators.now }
 {
@@ -51,7 +51,7 @@ fn bad_denominator(denominators: &[Wide], scale: u128) -> Option<usize>
         .position(|denominator| is_bad_denominator(denominator, scale))
 }
 
-// The place of the first numerator out of range.
+// Returns the place of the first numerator out of range.
 fn bad_numerator(numerators: &[Wide]) -> Option<usize>
     ensures { result ≡ position spec.is_bad_numerator numerators.now }
 {
@@ -60,7 +60,7 @@ fn bad_numerator(numerators: &[Wide]) -> Option<usize>
         .position(|numerator| is_bad_numerator(numerator))
 }
 
-// Whether `per` is 0, the output has too few places, or denominators are missing.
+// Returns whether `per` is 0, the output has too few places, or denominators are missing.
 fn is_short(fractions: &FractionArrays, places: usize) -> bool
     ensures { result ≡ spec.is_short fractions.now places }
 {
@@ -70,7 +70,7 @@ fn is_short(fractions: &FractionArrays, places: usize) -> bool
             < fractions.numerators.len().div_ceil(fractions.per as usize)
 }
 
-// The first fault, given the number of places of the output.
+// Returns the first fault, given the number of places of the output.
 pub(crate) fn fraction_fault(fractions: &FractionArrays, places: usize) -> Option<FractionFault>
     ensures { result ≡ spec.fraction_fault fractions.now places }
 {

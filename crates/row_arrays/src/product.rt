@@ -5,7 +5,7 @@ ghost use Rattle.row_arrays.specs.Sums.{fitting, plus};
 
 const SIGN: u128 = 0x8000_0000_0000_0000_0000_0000_0000_0000;
 
-// The amount with its sign, if it fits an `i128`.
+// Returns the amount with its sign, if it fits an `i128`.
 fn signed(negative: bool, amount: u128) -> Option<i128>
     ensures { result ≡ fitting (if negative then (neg_ℤ (pos amount)) else (pos amount)) }
 {
@@ -19,7 +19,7 @@ fn signed(negative: bool, amount: u128) -> Option<i128>
     }
 }
 
-// The product, if it fits an `i128`.
+// Returns the product, if it fits an `i128`.
 fn product(numerator: u128, number: i128) -> Option<i128>
     ensures { result ≡ fitting (pos numerator *ℤ number) }
 {
@@ -29,7 +29,7 @@ fn product(numerator: u128, number: i128) -> Option<i128>
     }
 }
 
-// The sum plus a product, if both the product and the new sum fit an `i128`.
+// Returns the sum plus a product, if both the product and the new sum fit an `i128`.
 pub(crate) fn plus_product(sum: i128, numerator: u128, number: i128) -> Option<i128>
     ensures { result ≡ plus (Some sum) (pos numerator *ℤ number) }
 {

@@ -11,7 +11,7 @@ use crate::FractionFault;
 use crate::fractions::{FractionArrays, fraction_fault};
 use nearest_arrays::{put_binary32, put_binary64};
 
-// The numerator of a number.
+// Returns the numerator of a number.
 fn numerator_of(fractions: &FractionArrays, place: usize) -> i128
     requires inside { place < length fractions.now.numerators.now }
     requires good { spec.bad_numerator fractions.now ≡ None }
@@ -21,7 +21,7 @@ fn numerator_of(fractions: &FractionArrays, place: usize) -> i128
     fractions.numerators[place].integer()
 }
 
-// The denominator of a number: its own times the scale.
+// Returns the denominator of a number: its own times the scale.
 fn denominator_of(fractions: &FractionArrays, place: usize) -> u128
     requires inside { place < length fractions.now.numerators.now }
     requires shared { 0 < fractions.now.per }

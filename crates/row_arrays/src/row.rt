@@ -11,7 +11,7 @@ use crate::rows::{ControlArrays, RowArrays, RowFault};
 use crate::sum::sum_of_row;
 use flat_arrays::{Wide, put_item};
 
-// How many controls there are.
+// Returns how many controls there are.
 fn count_of(controls: &ControlArrays) -> usize
     requires { 0 < controls.now.components }
     ensures { result ≡ control_count controls.now }
@@ -19,14 +19,14 @@ fn count_of(controls: &ControlArrays) -> usize
     controls.numbers.len() / controls.components as usize
 }
 
-// Whether every index names a control.
+// Returns whether every index names a control.
 fn are_controls(indices: &[u32], count: usize) -> bool
     ensures { result ≡ list_all (λ control. nat_lt control count) indices.now }
 {
     indices.iter().all(|control| (*control as usize) < count)
 }
 
-// Whether the arrays contain the entries of a row, and each entry names a control.
+// Returns whether the arrays contain the entries of a row, and each entry names a control.
 fn is_row_within(rows: &RowArrays, controls: &ControlArrays, row: u32) -> bool
     requires row { row + 1 < length rows.now.starts.now }
     requires components { 0 < controls.now.components }

@@ -20,7 +20,7 @@ impl RowArrays<'_> {
     ghost use Rattle.std.specs.Prelude.{◌≡◌, ◌<◌, length};
     ghost use Rattle.row_arrays.specs.Rows.{row_start};
 
-    // Where the entries of a row begin, or where the last row ends.
+    // Returns where the entries of a row begin, or where the last row ends.
     pub(crate) fn start(&self, row: usize) -> usize
         requires { row < length self.now.starts.now }
         ensures { result ≡ row_start self.now row }

@@ -9,7 +9,7 @@ ghost use Rattle.row_arrays.specs.Rows.{AreEntries, is_within, control_count, pr
 use crate::product::plus_product;
 use crate::rows::{ControlArrays, RowArrays};
 
-// A component of a control.
+// Returns a component of a control.
 fn number_of(controls: &ControlArrays, control: u32, component: u32) -> i128
     requires control { control < control_count controls.now }
     requires component { component < controls.now.components }
@@ -18,7 +18,7 @@ fn number_of(controls: &ControlArrays, control: u32, component: u32) -> i128
     controls.numbers[control as usize * controls.components as usize + component as usize].integer()
 }
 
-// The sum plus the product of an entry.
+// Returns the sum plus the product of an entry.
 fn plus_entry(
     rows: &RowArrays,
     controls: &ControlArrays,
@@ -36,7 +36,7 @@ fn plus_entry(
     plus_product(sum, rows.numerators[entry].natural(), number)
 }
 
-// The sum over the entries from `start` up to `end`.
+// Returns the sum over the entries from `start` up to `end`.
 fn sum_of_entries(
     rows: &RowArrays,
     controls: &ControlArrays,
@@ -58,7 +58,7 @@ fn sum_of_entries(
     Some(sum)
 }
 
-// The sum of a row over its entries.
+// Returns the sum of a row over its entries.
 pub(crate) fn sum_of_row(
     rows: &RowArrays,
     controls: &ControlArrays,
