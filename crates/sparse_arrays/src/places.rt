@@ -21,8 +21,8 @@ pub struct SparsePlaces<'a> {
     pub level_points: &'a mut [u32],
     /// For each level its number of faces.
     pub level_faces: &'a mut [u32],
-    /// For each face, level by level, its kind: 0 a hole, 1 a face whose parent is not selected, 2 a selected face, 3 a face
-    /// that is refined no further.
+    /// The kind of each face, level by level: 0 for a hole, 1 for a face whose parent is not selected, 2 for a selected face, 3 for
+    /// any other face.
     pub kinds: &'a mut [u8],
     /// For each face its number in the uniform level, counted from 0.
     pub numbers: &'a mut [u64],
@@ -32,7 +32,7 @@ pub struct SparsePlaces<'a> {
     pub corners: &'a mut [u32],
     /// The three numerators of each point, x, y and z, level by level, in two's complement.
     pub numerators: &'a mut [Wide],
-    /// The denominator of each point.
+    /// The denominator of each point, times the common factor.
     pub denominators: &'a mut [Wide],
 }
 
