@@ -14,7 +14,7 @@ use Rattle.array_answers.specs.Refused.{IsRefusal}
 use Rattle.fault_record.specs.declared.record.FaultRecord.{FaultRecord}
 use Rattle.stored_arrays.specs.Texts.{IsRefusedFor, text_limit}
 
--- the faults of a text that must be the text of a table: it is too long, a line is bad, bytes follow it, or a row differs
+-- the faults of a text that must be that of a table: it is too long, has a bad line, goes on behind the table, or has another row
 abbrev pub check_refusal : Table → List ℕ → Option Fault
 check_refusal own text = if nat_lt text_limit (length text) then Some Long else stored_fault 0 own (read_table text)
 

@@ -12,7 +12,7 @@ use std::alloc::Global;
 use stencil_apply::StencilTable;
 use table_file::{ReadTable, first_difference};
 
-// The table of a mesh in arrays at a depth.
+// Returns the table of a mesh in arrays at a depth.
 fn own_table(alloc: Global, arrays: &MeshArrays, depth: u32) -> Result<StencilTable, FaultRecord>
     ensures { IsOwnTable arrays.now depth result }
 {
@@ -23,14 +23,14 @@ fn own_table(alloc: Global, arrays: &MeshArrays, depth: u32) -> Result<StencilTa
     Ok(refined.composed.table)
 }
 
-// Whether the text of a table ends with the bytes.
+// Returns whether the text of a table ends with the bytes.
 fn is_whole(read: &ReadTable, text: &[u8]) -> bool
     ensures { result ≡ nat_eq read.now.end (length text.now) }
 {
     read.end() == text.len()
 }
 
-// The table whose text these bytes are.
+// Returns the table whose text these bytes are.
 fn whole_table(alloc: Global, text: &[u8]) -> Result<StencilTable, FaultRecord>
     ensures { IsWholeTable text.now result }
 {
@@ -50,7 +50,7 @@ fn whole_table(alloc: Global, text: &[u8]) -> Result<StencilTable, FaultRecord>
     }))
 }
 
-// The number of rows of a table that equals the mesh's own, or the fault.
+// Returns the number of rows of a table that equals the mesh's own, or the fault.
 fn compare(stored: &StencilTable, own: &StencilTable) -> Result<u32, FaultRecord>
     ensures { IsCompared stored.now own.now result }
 {
@@ -60,7 +60,7 @@ fn compare(stored: &StencilTable, own: &StencilTable) -> Result<u32, FaultRecord
     }
 }
 
-// The number of rows of the table whose text these bytes are, or the fault.
+// Returns the number of rows of the table whose text these bytes are, or the fault.
 fn check_text(alloc: Global, own: &StencilTable, text: &[u8]) -> Result<u32, FaultRecord>
     ensures { IsTextChecked own.now text.now result }
 {
@@ -68,17 +68,19 @@ fn check_text(alloc: Global, own: &StencilTable, text: &[u8]) -> Result<u32, Fau
     compare(&stored, own)
 }
 
-/// Checks that `text` is exactly the text of the table of a mesh in arrays at `depth`, at most 10, and returns the number of rows of that
+/// Checks that `text` is exactly the text of the table of a mesh in arrays at `depth`, at most 10. Returns the number of rows of that
 /// table.
 ///
 /// The record is that of the first fault; `Memory` may come at any time:
 ///
-/// - `BAD_ARGUMENT` for a depth above 10, a fault of the arrays, or a fault of the command `stencils`, in this order;
+/// - `BAD_ARGUMENT` for a depth above 10;
+/// - the first fault of the arrays;
+/// - the first fault of the command `stencils`;
 /// - `Long`: the text has more than 2^28 bytes;
 /// - `Table`: the first bad line of the text, counted from 1, and its cause;
 /// - `Table` with `Form`: the line behind the table, if bytes follow its text;
-/// - `Differs`: the first row, counted from 0, that differs from the mesh's own or is missing in one table; 0 if the numbers of control
-///   points differ.
+/// - `Differs`: the first row, counted from 0, that differs from the mesh's own or is missing in one table. It is 0 if the numbers of
+///   control points differ.
 pub fn check_stored(
     alloc: Global,
     arrays: &MeshArrays,

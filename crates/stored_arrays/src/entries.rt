@@ -36,14 +36,14 @@ fn copy_entries(
     Ok(())
 }
 
-// Whether a number may be a denominator or a numerator.
+// Returns whether a number may be a denominator or a numerator.
 fn is_term(number: u128) -> bool
     ensures { result ≡ is_term number }
 {
     1 <= number && number <= NUMBER_LIMIT
 }
 
-// Whether the control points ascend and exist, and the numerators are within their limits.
+// Returns whether the control points ascend and exist, and the numerators are within their limits.
 fn are_in_range(entries: &[Entry], controls: u32) -> bool
     ensures { result ≡ are_shares_in_range controls 0 (shares_of entries.now) }
 {
@@ -59,7 +59,7 @@ fn are_in_range(entries: &[Entry], controls: u32) -> bool
     true
 }
 
-// Whether the numerators sum to the denominator.
+// Returns whether the numerators sum to the denominator.
 fn sum_to(entries: &[Entry], denominator: u128) -> bool
     requires { denominator ≤ number_bound }
     ensures { result ≡ nat_eq (total_of (shares_of entries.now)) denominator }
@@ -71,7 +71,7 @@ fn sum_to(entries: &[Entry], denominator: u128) -> bool
     total == denominator
 }
 
-// Whether the entries are a row over the denominator.
+// Returns whether the entries are a row over the denominator.
 fn are_row(entries: &[Entry], denominator: u128, controls: u32) -> bool
     ensures { result ≡ is_row controls (row_of denominator entries.now) }
 {

@@ -23,7 +23,7 @@ pub struct ExactRows<'a> {
     pub denominators: &'a [Wide],
 }
 
-// Whether the arrays have the lengths that they need, and none above the limit of tables.
+// Returns whether the arrays have the lengths that they need, and none above the limit of tables.
 pub(crate) fn are_in_shape(rows: &ExactRows) -> bool
     ensures { result ≡ spec.is_in_shape rows.now }
 {
@@ -34,7 +34,7 @@ pub(crate) fn are_in_shape(rows: &ExactRows) -> bool
         && rows.starts.len() == rows.denominators.len() + 1
 }
 
-// The denominator of a row.
+// Returns the denominator of a row.
 pub(crate) fn denominator_of(rows: &ExactRows, r: usize) -> u128
     requires { r < length rows.now.denominators.now }
     ensures { result ≡ spec.number_at rows.now.denominators.now r }

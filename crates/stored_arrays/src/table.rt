@@ -21,7 +21,7 @@ struct Added {
     entries: Vec<Entry>,
 }
 
-// No rows, with capacity for those of the arrays.
+// Returns no rows, with capacity for those of the arrays.
 fn no_rows(alloc: Global, rows: &ExactRows) -> Result<Added, Memory>
     requires { is_in_shape rows.now ≡ true }
     ensures { IfOk result (λ added. AreFirstRows rows.now 0 added.builder.table) }
@@ -69,7 +69,7 @@ fn add_rows(rows: &ExactRows, added: &mut Added) -> Result<Option<usize>, Memory
     Ok(None)
 }
 
-// A record of invalid arrays.
+// Returns a record of invalid arrays.
 fn bad_arrays(first: u64, second: u64) -> FaultRecord
     ensures { result ≡ row 17 17 first second }
 {
@@ -81,7 +81,7 @@ fn bad_arrays(first: u64, second: u64) -> FaultRecord
     }
 }
 
-// The cause why the arrays have no table.
+// The fault that keeps the arrays from a table.
 enum RowsFault {
     // The row is invalid.
     Row(usize),
@@ -98,7 +98,7 @@ impl From<Memory> for RowsFault {
     }
 }
 
-// The table of arrays whose lengths fit.
+// Returns the table of arrays whose lengths fit.
 fn table_in_shape(alloc: Global, rows: &ExactRows) -> Result<StencilTable, RowsFault>
     requires { is_in_shape rows.now ≡ true }
     ensures { MatchResult result (IsTableOf rows.now) (IsRowsFault rows.now) }
@@ -112,9 +112,9 @@ fn table_in_shape(alloc: Global, rows: &ExactRows) -> Result<StencilTable, RowsF
 
 /// Returns the table of the rows in the arrays. The work grows with the number of rows and entries only.
 ///
-/// There are at most 2^27 control points, rows and entries. `numerators` is as long as `indices`, and `starts` has one place
-/// more than there are denominators. Row `r` has the entries from `starts[r]` up to `starts[r + 1]`. Its control points ascend without
-/// repetition. Its numerators are above 0 and sum to its denominator, which is from 1 to 2^126 - 1.
+/// There are at most 2^27 control points, rows and entries. `numerators` is as long as `indices`, and `starts` has one place more than
+/// there are denominators. Row `r` has the entries from `starts[r]` up to `starts[r + 1]`. Its control points are below `controls` and
+/// ascend without repetition. Its numerators are above 0 and sum to its denominator, which is from 1 to 2^126 - 1.
 ///
 /// The record has the status `BAD_ARRAYS` and the kind 17. Its numbers are 0 and 1 if the lengths do not fit or pass a limit. Else they
 /// are the first invalid row, counted from 0, and 0. `Memory` may come at any time.

@@ -20,7 +20,7 @@ fn write_table<K: Sink>(table: &StencilTable, sink: &mut K) -> Result<(), WriteF
     out.end()
 }
 
-/// Writes as much of the text of a table as fits to the front of `out`, and returns the length of the whole text in bytes. It takes no
+/// Writes as much of the text of a table as fits to the front of `out`. Returns the length of the whole text in bytes. The call takes no
 /// memory.
 ///
 /// No clause says what a longer slice holds behind the text. A table over more than 2^20 control points has a text too, but
