@@ -2,7 +2,7 @@
 
 ghost use Rattle.std.specs.Prelude.{◌≡◌, ◌+◌, ◌<◌, ◌≤◌, ◌++◌, ◌∷◌, [], length, take, drop};
 
-/// Writes the items into the array from place `at` on. The array has room for them, and no other item changes.
+/// Writes the items into the array from place `at` on. The array has a place for each, and no other item changes.
 pub fn put_items<T: Copy>(out: &mut [T], at: usize, items: &[T])
     requires fits { at + length items.now ≤ length out.old }
     ensures written { take (at + length items.now) out.new ≡ take at out.old ++ items.now }
@@ -12,7 +12,7 @@ pub fn put_items<T: Copy>(out: &mut [T], at: usize, items: &[T])
     out[at..at + items.len()].copy_from_slice(items);
 }
 
-/// Writes one item into the array at place `at`. The array has room for it, and no other item changes.
+/// Writes one item into the array at place `at`. The array has that place, and no other item changes.
 pub fn put_item<T: Copy>(out: &mut [T], at: usize, item: T)
     requires fits { at < length out.old }
     ensures written { take (at + 1) out.new ≡ take at out.old ++ item ∷ [] }

@@ -17,7 +17,7 @@ pub struct Wide {
     pub high: u64,
 }
 
-// The integer whose two's complement is `n`.
+// Returns the integer whose two's complement is `n`.
 fn signed(n: u128) -> i128
     ensures { result ≡ integer_from n }
 {
@@ -28,7 +28,7 @@ fn signed(n: u128) -> i128
     }
 }
 
-// The two's complement of an integer.
+// Returns the two's complement of an integer.
 fn complement(x: i128) -> u128
     ensures { integer_from result ≡ x }
 {
@@ -57,14 +57,14 @@ impl Wide {
         Wide::of_natural(complement(x))
     }
 
-    /// The natural number of the words.
+    /// Returns the natural number of the words.
     pub fn natural(&self) -> u128
         ensures { result ≡ natural_of self.now }
     {
         (self.high as u128) * WORD + (self.low as u128)
     }
 
-    /// The integer of the words, read as two's complement.
+    /// Returns the integer of the words, read as two's complement.
     pub fn integer(&self) -> i128
         ensures { result ≡ integer_of self.now }
     {
