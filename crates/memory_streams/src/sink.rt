@@ -41,7 +41,7 @@ impl<'a> SliceSink<'a> {
         }
     }
 
-    /// How many bytes were written in all, up to 2^64 - 1.
+    /// Returns how many bytes were written in all, up to 2^64 - 1.
     pub fn total(&self) -> u64
         ensures { result ≡ count_of (text_of self.now) }
     {

@@ -14,14 +14,14 @@ impl Model for Written {
 }
 
 impl Written {
-    // No bytes.
+    // Returns no bytes.
     pub(crate) fn new() -> Written
         ensures { result.bytes ≡ [] }
     {
         Written {}
     }
 
-    // These bytes followed by the piece.
+    // Returns these bytes followed by the piece.
     pub(crate) fn and(&self, piece: &[u8]) -> Written
         ensures { result.bytes ≡ self.now.bytes ++ piece.now }
     {
