@@ -1,7 +1,7 @@
 //! Writes text to a sink through one buffer: bytes, whole numbers, exact fractions and rounded decimals.
 //!
-//! An [`Out`] keeps the sink of a caller while it gathers text, and passes the text on in pieces of up to 4,096 bytes. No call takes
-//! memory.
+//! An [`Out`] keeps the sink of a caller while it gathers text in a buffer of 4,096 bytes. A longer piece goes straight to the sink. No
+//! call takes memory.
 #![tactic(auto)]
 
 pub mod laws;

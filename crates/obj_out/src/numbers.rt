@@ -10,7 +10,7 @@ use itoa::Buffer;
 use ratio128::Frac;
 
 impl Waiting {
-    // A whole number.
+    // Appends a whole number.
     pub(crate) fn push_number(&mut self, n: u64)
         requires fits { length self.old + 40 ≤ 4096 }
         ensures text { self.new ≡ self.old ++ number_text n }
@@ -19,7 +19,7 @@ impl Waiting {
         self.push_digits(n);
     }
 
-    // A byte, then a whole number.
+    // Appends a byte, then a whole number.
     pub(crate) fn push_number_after(&mut self, byte: u8, n: u64)
         requires fits { length self.old + 41 ≤ 4096 }
         ensures { self.new ≡ self.old ++ (byte ∷ number_text n) }
@@ -28,7 +28,7 @@ impl Waiting {
         self.push_number(n);
     }
 
-    // A whole number of up to 128 bits; most fit 64.
+    // Appends a whole number of up to 128 bits; most fit 64.
     pub(crate) fn push_wide(&mut self, n: u128)
         requires fits { length self.old + 40 ≤ 4096 }
         ensures text { self.new ≡ self.old ++ number_text n }
@@ -41,7 +41,7 @@ impl Waiting {
         }
     }
 
-    // A whole number of up to 128 bits, in 128-bit arithmetic.
+    // Appends a whole number of up to 128 bits, in 128-bit arithmetic.
     fn push_long(&mut self, n: u128)
         requires fits { length self.old + 40 ≤ 4096 }
         ensures text { self.new ≡ self.old ++ number_text n }
@@ -51,7 +51,7 @@ impl Waiting {
         self.push(buffer.format(n).as_bytes());
     }
 
-    // The numerator, then a slash and the denominator unless the denominator is 1.
+    // Appends the numerator, then a slash and the denominator unless the denominator is 1.
     fn push_ratio(&mut self, num: u128, den: u128)
         requires fits { length self.old + 81 ≤ 4096 }
         ensures { self.new ≡ self.old ++ ratio_text (num, den) }
@@ -63,7 +63,7 @@ impl Waiting {
         }
     }
 
-    // `-` for a negative number.
+    // Appends `-` for a negative number.
     fn push_sign(&mut self, num: i128)
         requires fits { length self.old + 1 ≤ 4096 }
         ensures text { self.new ≡ self.old ++ sign_text num }
@@ -74,7 +74,7 @@ impl Waiting {
         }
     }
 
-    // A fraction in lowest terms, whatever its terms are.
+    // Appends a fraction in lowest terms, whatever its terms are.
     pub(crate) fn push_frac(&mut self, f: &Frac)
         requires fits { length self.old + 82 ≤ 4096 }
         requires positive { 0 < f.now.den }
@@ -86,7 +86,7 @@ impl Waiting {
         self.push_ratio(num, den);
     }
 
-    // A byte, then a fraction in lowest terms.
+    // Appends a byte, then a fraction in lowest terms.
     pub(crate) fn push_frac_after(&mut self, byte: u8, f: &Frac)
         requires fits { length self.old + 83 ≤ 4096 }
         requires positive { 0 < f.now.den }
@@ -97,7 +97,7 @@ impl Waiting {
         self.push_frac(f);
     }
 
-    // A fraction rounded to `digits` decimals, half to even.
+    // Appends a fraction rounded to `digits` decimals, half to even.
     pub(crate) fn push_rounded(&mut self, f: &Frac, digits: u32)
         requires fits { length self.old + 60 ≤ 4096 }
         requires positive { 0 < f.now.den }
@@ -111,7 +111,7 @@ impl Waiting {
         self.push_decimal(&number, digits);
     }
 
-    // A byte, then a rounded fraction.
+    // Appends a byte, then a rounded fraction.
     pub(crate) fn push_rounded_after(&mut self, byte: u8, f: &Frac, digits: u32)
         requires fits { length self.old + 61 ≤ 4096 }
         requires positive { 0 < f.now.den }
@@ -124,7 +124,7 @@ impl Waiting {
         self.push_rounded(f, digits);
     }
 
-    // `-` for a negative number that does not round to 0.
+    // Appends `-` for a negative number that does not round to 0.
     fn push_rounded_sign(&mut self, num: i128, number: &Decimal, digits: u32)
         requires fits { length self.old + 1 ≤ 4096 }
         ensures text { self.new ≡ self.old ++ rounded_sign num (number.now.whole * 10 ^ digits + number.now.units) }
@@ -135,7 +135,7 @@ impl Waiting {
         }
     }
 
-    // A number with `digits` decimals, with a point before them unless there are none.
+    // Appends a number with `digits` decimals, with a point before them unless there are none.
     fn push_decimal(&mut self, number: &Decimal, digits: u32)
         requires fits { length self.old + 59 ≤ 4096 }
         requires few { digits ≤ 18 }
@@ -149,7 +149,7 @@ impl Waiting {
         }
     }
 
-    // The last `digits` digits of a number that has no more: the digits after the leading 1 of 10^digits + n.
+    // Appends the last `digits` digits of a number that has no more: the digits after the leading 1 of 10^digits + n.
     fn push_last_digits(&mut self, n: u64, digits: u32)
         requires fits { length self.old + digits ≤ 4096 }
         requires few { digits ≤ 18 }
@@ -160,7 +160,7 @@ impl Waiting {
         self.push_behind_first(buffer.format(10u64.pow(digits) + n).as_bytes());
     }
 
-    // A text without its first byte.
+    // Appends a text without its first byte.
     fn push_behind_first(&mut self, text: &[u8])
         requires fits { length self.old + length text.now ≤ 4097 }
         ensures { self.new ≡ self.old ++ drop 1 text.now }

@@ -17,7 +17,7 @@ struct Division {
     rest: u128,
 }
 
-// The amount over the denominator, rounded to `digits` decimals, half to even.
+// Returns the amount over the denominator, rounded to `digits` decimals, half to even.
 pub(crate) fn rounded(amount: u128, den: u128, digits: u32) -> Decimal
     requires kept { amount < 2 ^ 127 }
     requires positive { 0 < den }
@@ -41,7 +41,7 @@ pub(crate) fn rounded(amount: u128, den: u128, digits: u32) -> Decimal
     }
 }
 
-// The decimals, or the whole part if there are none. It is odd exactly if the number, in units of its last decimal, is odd.
+// Returns the decimals, or the whole part if there are none. The result is odd exactly if the number, in units of its last decimal, is odd.
 fn last_place(whole: u128, units: u64, digits: u32) -> u128
     requires { units < 10 ^ digits }
     ensures { result % 2 ≡ (whole * 10 ^ digits + units) % 2 }
@@ -49,7 +49,7 @@ fn last_place(whole: u128, units: u64, digits: u32) -> u128
     if digits == 0 { whole } else { units as u128 }
 }
 
-// The number plus one unit of its last decimal.
+// Returns the number plus one unit of its last decimal.
 fn unit_more(whole: u128, units: u64, digits: u32) -> Decimal
     requires kept { whole < 2 ^ 127 }
     requires few { digits ≤ 18 }
@@ -70,7 +70,7 @@ fn unit_more(whole: u128, units: u64, digits: u32) -> Decimal
     }
 }
 
-// Whether a quotient with this remainder rounds up: above half, or at half with an odd last digit.
+// Returns whether a quotient with this remainder rounds up: above half, or at half with an odd last digit.
 fn rounds_up(last: u128, rest: u128, den: u128) -> bool
     requires bounded { den < 2 ^ 126 }
     requires below { rest < den }
@@ -79,8 +79,8 @@ fn rounds_up(last: u128, rest: u128, den: u128) -> bool
     den < 2 * rest || (den == 2 * rest && last % 2 == 1)
 }
 
-// The first `digits` decimals of a fraction below 1, and the remainder. With a denominator of at most 64 bits, one division in 128 bits
-// gives all of them.
+// Returns the first `digits` decimals of a fraction below 1, and the remainder. With a denominator of at most 64 bits, one division in 128
+// bits gives all of them.
 fn decimals_of(rest: u128, den: u128, digits: u32) -> Division
     requires bounded { den < 2 ^ 126 }
     requires below { rest < den }
@@ -96,7 +96,7 @@ fn decimals_of(rest: u128, den: u128, digits: u32) -> Division
     }
 }
 
-// The decimals by one division.
+// Returns the decimals by one division.
 fn decimals_at_once(rest: u128, den: u128, digits: u32) -> Division
     requires short { den < 2 ^ 64 }
     requires below { rest < den }
@@ -113,7 +113,7 @@ fn decimals_at_once(rest: u128, den: u128, digits: u32) -> Division
     }
 }
 
-// The decimals one by one.
+// Returns the decimals one by one.
 fn decimals_in_turn(rest: u128, den: u128, digits: u32) -> Division
     requires bounded { den < 2 ^ 126 }
     requires below { rest < den }
@@ -135,7 +135,7 @@ fn decimals_in_turn(rest: u128, den: u128, digits: u32) -> Division
     }
 }
 
-// One decimal of a fraction below 1. Ten times the remainder may exceed 128 bits. So the code doubles the remainder, divides, and
+// Returns one decimal of a fraction below 1. Ten times the remainder may exceed 128 bits. So the code doubles the remainder, divides, and
 // multiplies by five: twice the double, plus one more.
 fn next_digit(rest: u128, den: u128) -> Division
     requires bounded { den < 2 ^ 126 }

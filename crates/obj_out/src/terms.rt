@@ -6,7 +6,7 @@ ghost use Rattle.subdiv_model.specs.Fractions.{lowest};
 
 use ratio128::{gcd, quotient};
 
-// The numerator and the denominator in lowest terms. Most denominators are powers of two, which need no division.
+// Returns the numerator and the denominator in lowest terms. Most denominators are powers of two, which need no division.
 pub(crate) fn lowest_terms(num: u128, den: u128) -> (u128, u128)
     requires { 0 < den }
     ensures { result ≡ lowest (num, den) }
@@ -19,7 +19,7 @@ pub(crate) fn lowest_terms(num: u128, den: u128) -> (u128, u128)
     (quotient(num, common), quotient(den, common))
 }
 
-// The numerator and the denominator in lowest terms; the denominator is a power of two.
+// Returns the numerator and the denominator in lowest terms; the denominator is a power of two.
 fn shifted_terms(num: u128, den: u128) -> (u128, u128)
     requires positive { 0 < den }
     requires power { den / 2 ^ trailing_zeros w128 den ≡ 1 }

@@ -30,7 +30,7 @@ impl Waiting {
         }
     }
 
-    // How many more bytes fit.
+    // Returns how many more bytes fit.
     #[inline]
     pub(crate) fn free_bytes(&self) -> usize
         ensures { result + length self.now ≡ 4096 }
@@ -78,7 +78,7 @@ impl Waiting {
     }
 }
 
-// How many digits a number has.
+// Returns how many digits a number has.
 fn digits_of(n: u64) -> usize
     ensures count { result ≡ length (decimal n) }
     ensures few { result ≤ 20 }
