@@ -6,7 +6,7 @@ ghost use Rattle.obj_tags.specs.Kept.{ReadUnless};
 
 use obj_tags::{ObjCause, numeral, numerator_over};
 
-/// The numerator of a coordinate over the common denominator, which the denominator of the coordinate must divide.
+/// Returns the numerator of a coordinate over the common denominator, which the denominator of the coordinate must divide.
 pub(crate) fn read_coordinate(word: &[u8], common: u128) -> Result<i128, ObjCause>
     requires { common ≤ 10 ^ 37 }
     ensures { ReadUnless result (coordinate_fault common word.now) (λ n. (n ≡ number_over common word.now) × IsShort n) }

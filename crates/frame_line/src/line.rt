@@ -24,7 +24,7 @@ pub enum FrameLine {
 // The greatest length of a line, in bytes.
 const LINE_LIMIT: usize = 65_535;
 
-// Whether a word is this text.
+// Returns whether a word is this text.
 fn is_word(word: &[u8], text: &[u8]) -> bool
     ensures { result ≡ bytes_eq word.now text.now }
 {

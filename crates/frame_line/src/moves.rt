@@ -20,7 +20,7 @@ pub(crate) struct MoveWords<'a> {
     pub(crate) z: &'a [u8],
 }
 
-// The first four words, or `None` if there are fewer.
+// Returns the first four words, or `None` if there are fewer.
 fn first_four<'a>(words: &mut Words<'a>) -> Option<MoveWords<'a>>
     ensures { let line = words_left words.old in
         MatchOption result (length line < 4) (λ four. AreFirst four line) }
@@ -33,7 +33,7 @@ fn first_four<'a>(words: &mut Words<'a>) -> Option<MoveWords<'a>>
     })
 }
 
-// The control point that a word names, counted from 0.
+// Returns the control point that a word names, counted from 0.
 fn read_place(word: &[u8], count: u32) -> Result<u32, ObjCause>
     ensures { ReadUnless result (index_cause count word.now) (λ i. (i ≡ number_of_digits word.now) × (i < count)) }
 {
@@ -45,7 +45,7 @@ fn read_place(word: &[u8], count: u32) -> Result<u32, ObjCause>
     }
 }
 
-// The point of a move over the common denominator.
+// Returns the point of a move over the common denominator.
 fn read_point(words: &MoveWords<'_>, common: u128) -> Result<Point3, ObjCause>
     requires { common ≤ 10 ^ 37 }
     ensures { ReadUnless result (point_cause common words.now) (λ point. IsPointOf common point words.now) }
