@@ -43,10 +43,10 @@
 
    PROOF AND TEST
 
-   The exports of `crates/far_c` are proved to meet their contracts: rows of tables, their exact sums, refined points, faces and origins of levels,
-   sparse levels, faults of a mesh, OBJ text, stored tables, runs, and rounding to the nearest double or float. The C code between these exports and
-   this header (`bindings/c`) is tested. So are the sums of `drillolive_table_apply_doubles` and `_floats`, which round as C rounds, and the choice of
-   the points that a move of a session changes. */
+   The exports of `crates/far_c` are proved to meet their contracts. They give rows of tables, exact sums, refined points, faces and origins of levels,
+   and sparse levels. They also give faults of a mesh, OBJ text, stored tables, runs, and nearest doubles and floats. The C code between these exports
+   and this header (`bindings/c`) is tested. Tests also cover the sums of `drillolive_table_apply_doubles` and `_floats`, which round as C rounds, and
+   which points a move of a session changes. */
 #ifndef DRILLOLIVE_H
 #define DRILLOLIVE_H
 
@@ -104,8 +104,8 @@ typedef struct drillolive_fault {
     uint64_t first, second;
 } drillolive_fault;
 
-/* Writes the line of a fault as a string without a line feed, cut to `size` - 1 bytes, and returns the length of the whole line. `out` may be NULL if
-   `size` is 0. The line of DRILLOLIVE_DONE is empty. */
+/* Writes the line of a fault as a string without a line feed, cut to `size` - 1 bytes. Returns the length of the whole line. `out` may be NULL if `size`
+   is 0. The line of DRILLOLIVE_DONE is empty. */
 size_t drillolive_fault_line(drillolive_fault fault, char *out, size_t size);
 
 /* Returns one sentence of advice on a fault, a string that the library keeps. It is empty for DRILLOLIVE_DONE. */
@@ -161,8 +161,8 @@ void drillolive_mesh_free(drillolive_mesh *mesh);
 
    A crease has two points, `ends[2i]` and `ends[2i + 1]`, and a sharpness. A corner tag has a point and a sharpness. A sharpness is taken exactly, and
    is infinite from 10 on. The last of several tags of one edge or point counts.
-   Errors: DRILLOLIVE_RANGE (DRILLOLIVE_RANGE_SHARPNESS) for a sharpness below 0. DRILLOLIVE_BAD_NUMBER of kind 0 for a NaN, and of kind 1 for a
-   sharpness whose denominator passes 2^60: round it to a multiple of 2^-60 or more. */
+   Errors: DRILLOLIVE_RANGE (DRILLOLIVE_RANGE_SHARPNESS) for a sharpness below 0. DRILLOLIVE_BAD_NUMBER of kind 0 for a NaN, of kind 1 for a
+   denominator above 2^60: round the sharpness to a multiple of 2^-60 or more. */
 drillolive_fault drillolive_mesh_set_creases(drillolive_mesh *mesh, const uint32_t *ends, const double *sharpness, size_t crease_count);
 drillolive_fault drillolive_mesh_set_corner_tags(drillolive_mesh *mesh, const uint32_t *points, const double *sharpness, size_t tag_count);
 
@@ -174,7 +174,7 @@ drillolive_fault drillolive_mesh_set_boundary(drillolive_mesh *mesh, enum drillo
 drillolive_fault drillolive_mesh_set_method(drillolive_mesh *mesh, enum drillolive_method method);
 
 /* Sets the texture: `uv` has two numbers for each of `value_count` values, and `texture_corners` the value of each corner of the mesh, in the order of
-   the corners. Errors: DRILLOLIVE_BAD_NUMBER; DRILLOLIVE_BAD_ARRAYS when the mesh is refined. */
+   the corners. Errors: DRILLOLIVE_BAD_NUMBER; DRILLOLIVE_BAD_ARRAYS when the mesh is checked or refined. */
 drillolive_fault drillolive_mesh_set_texture_doubles(drillolive_mesh *mesh, const double *uv, size_t value_count,
                                                      const uint32_t *texture_corners, size_t corner_count);
 drillolive_fault drillolive_mesh_set_texture_floats(drillolive_mesh *mesh, const float *uv, size_t value_count,
@@ -185,8 +185,8 @@ drillolive_fault drillolive_mesh_check(const drillolive_mesh *mesh);
 
 /* Lists all faults of a mesh that is not a manifold, and none of a manifold. `out` receives the first `room` faults, and `count` the number of all. Each
    has the status DRILLOLIVE_MESH. Faces with fewer than three corners (kind 0) come first, then faces that repeat a point (1), in their order. Edges
-   follow in the order in which faces first name them: those of three or more faces (2), then those that two faces have in one direction (3). Points
-   that join more than one fan of faces (4) are listed only if no face and no edge has a fault. Errors: DRILLOLIVE_BAD_ARRAYS. */
+   of three or more faces (2) follow, then edges of two faces in one direction (3), both as faces first name them. Points that join more than one fan
+   of faces (4) are listed only if no face and no edge has a fault. Errors: DRILLOLIVE_BAD_ARRAYS. */
 drillolive_fault drillolive_mesh_faults(const drillolive_mesh *mesh, drillolive_fault *out, size_t room, size_t *count);
 
 drillolive_fault drillolive_mesh_count(const drillolive_mesh *mesh, drillolive_mesh_counts *out);
@@ -223,7 +223,7 @@ typedef struct drillolive_wide {
     uint64_t low, high;
 } drillolive_wide;
 
-/* The numbers of a table, of points or of sparse levels: the nearest doubles or floats, or exact numerators over a denominator for each row or point. */
+/* The numbers of tables, points or sparse levels: nearest doubles, nearest floats, or exact numerators over a denominator of each row or point. */
 enum drillolive_form { DRILLOLIVE_DOUBLES = 0, DRILLOLIVE_FLOATS = 1, DRILLOLIVE_EXACT = 2 };
 
 /* Which texture points stay fixed: none, the corners of charts, their whole rims, or every point. */
@@ -248,8 +248,8 @@ drillolive_fault drillolive_table_new_exact(const drillolive_mesh *mesh, uint32_
    limit mask. */
 drillolive_fault drillolive_table_new_limit(const drillolive_mesh *mesh, uint32_t depth, enum drillolive_form form, drillolive_table **out);
 
-/* Makes the table of (grid + 1)^2 points of the limit surface over a face of the level at this depth. Row i + j * (grid + 1) is the place at i / grid
-   along the first side of the face and j / grid along its last. `grid` is from 1 to 64. The face is a quad inside the mesh with four quads around each
+/* Makes the table of (grid + 1)^2 points of the limit surface over a face of the level at this depth. Row i + j * (grid + 1) lies at i / grid along
+   the first side of the face, and at j / grid along its last. `grid` is from 1 to 64. The face is a quad inside the mesh with four quads around each
    corner and nothing sharp. Errors as for a table, and DRILLOLIVE_PLACE: the level has no such face (kind 0), or the face has no patch (kind 1). */
 drillolive_fault drillolive_table_new_patch(const drillolive_mesh *mesh, uint32_t depth, uint32_t face, uint32_t grid, enum drillolive_form form,
                                             drillolive_table **out);
@@ -262,7 +262,7 @@ void drillolive_table_free(drillolive_table *table);
 
 drillolive_fault drillolive_table_count(const drillolive_table *table, drillolive_table_counts *out);
 
-/* Return the arrays of the table: rows + 1 starts; an index and a weight, or a numerator, for each entry; a denominator for each row. NULL if `table` is
+/* Return the arrays of the table: rows + 1 starts; for each entry an index, and a weight or a numerator; for each row a denominator. NULL if `table` is
    not a table or has other weights. */
 const uint32_t *drillolive_table_starts(const drillolive_table *table);
 const uint32_t *drillolive_table_indices(const drillolive_table *table);
@@ -313,7 +313,7 @@ drillolive_fault drillolive_table_check(const drillolive_mesh *mesh, uint32_t de
 
 /* ---- Points ---- */
 
-/* Points: those of a level, of which the first are the points of the mesh in their order; or limit points, points of a patch, or texture points. */
+/* Points of a level, limit points, points of a patch, or texture points. The first points of a level are those of the mesh, in their order. */
 typedef struct drillolive_points drillolive_points;
 
 /* Refine the points of the mesh exactly, and round each coordinate once, to the nearest double or float. An exact point has three numerators over one
@@ -358,8 +358,8 @@ void drillolive_level_free(drillolive_level *level);
 
 drillolive_fault drillolive_level_count(const drillolive_level *level, drillolive_level_counts *out);
 
-/* Return the number of corners of each face; the points of all corners, face after face; the two ends of each edge; and for each face 1 if it is a hole,
-   else 0. NULL if `level` is not a level. */
+/* Return the number of corners of each face, and the points of all corners, face after face. Return the two ends of each edge, and for each face 1 if it
+   is a hole, else 0. NULL if `level` is not a level. */
 const uint32_t *drillolive_level_face_sizes(const drillolive_level *level);
 const uint32_t *drillolive_level_corners(const drillolive_level *level);
 const uint32_t *drillolive_level_edges(const drillolive_level *level);
@@ -381,8 +381,8 @@ void drillolive_origins_free(drillolive_origins *origins);
 size_t drillolive_origins_points(const drillolive_origins *origins);
 size_t drillolive_origins_faces(const drillolive_origins *origins);
 
-/* Return for each point of the level the kind of the part of the mesh on which it lies, a value of drillolive_origin, and the number of that part: a
-   point, an edge of level 0, or a face. Return for each face of the level the face of the mesh from which it comes. */
+/* Return for each point of the level the part of the mesh on which it lies: its kind, a value of drillolive_origin, and its number. The part is a point,
+   an edge of level 0, or a face. Return for each face of the level the face of the mesh from which it comes. */
 const uint8_t *drillolive_origins_kinds(const drillolive_origins *origins);
 const uint32_t *drillolive_origins_numbers(const drillolive_origins *origins);
 const uint32_t *drillolive_origins_face_parents(const drillolive_origins *origins);
@@ -395,7 +395,7 @@ typedef struct drillolive_sparse drillolive_sparse;
 /* The faces that are selected for further refinement: those at features, or all. */
 enum drillolive_select { DRILLOLIVE_SELECT_FEATURES = 0, DRILLOLIVE_SELECT_ALL = 1 };
 
-/* The kind of a face of a sparse level: a hole, a child of an unselected face, a selected face, or a face that is not refined further. */
+/* The kind of a face of a sparse level: a hole, a child of an unselected face, a selected face, or one not refined further. */
 enum drillolive_kind { DRILLOLIVE_KIND_HOLE = 0, DRILLOLIVE_KIND_OUTER = 1, DRILLOLIVE_KIND_SELECTED = 2, DRILLOLIVE_KIND_LEAF = 3 };
 
 typedef struct drillolive_sparse_counts {
@@ -411,9 +411,9 @@ void drillolive_sparse_free(drillolive_sparse *sparse);
 /* Writes the number of levels, and of their points, faces and corners together. */
 drillolive_fault drillolive_sparse_count(const drillolive_sparse *sparse, drillolive_sparse_counts *out);
 
-/* Return the number of points and of faces of each level. The other arrays go level after level: for each face its kind, a value of drillolive_kind, its
-   number in the whole level and its number of corners; for each corner the number of its point within the level; for each point three numbers, or one
-   denominator. NULL if `sparse` is not a handle of sparse levels or has other numbers. */
+/* Return the number of points and of faces of each level. The other arrays go level after level. A face has its kind, a value of drillolive_kind, its
+   number in the whole level, and its number of corners. A corner has the number of its point within the level. A point has three numbers, and an
+   exact one a denominator. NULL if `sparse` is not a handle of sparse levels or has other numbers. */
 const uint32_t *drillolive_sparse_level_points(const drillolive_sparse *sparse);
 const uint32_t *drillolive_sparse_level_faces(const drillolive_sparse *sparse);
 const uint8_t *drillolive_sparse_kinds(const drillolive_sparse *sparse);
@@ -441,8 +441,8 @@ size_t drillolive_session_points(const drillolive_session *session);
 /* Returns the denominator of the controls; 0 if `session` is not a session. */
 drillolive_wide drillolive_session_denominator(const drillolive_session *session);
 
-/* Move `count` controls, one after another. Control controls[i] moves to three numbers of `xyz`, each rounded to the nearest multiple of 1 over the
-   denominator of the session, or to three numerators over it. `rounded` receives the number of coordinates that changed by rounding, and may be NULL.
+/* Move `count` controls, one after another. Control controls[i] moves to three numerators over the denominator of the session, or to three numbers of
+   `xyz`, each rounded to such a numerator. `rounded` receives the number of coordinates that changed by rounding, and may be NULL.
    The call evaluates the points that depend on a moved control again, and marks them as changed. Errors: DRILLOLIVE_RANGE for a missing control;
    DRILLOLIVE_BAD_NUMBER; DRILLOLIVE_BAD_ARGUMENT for doubles if the denominator is not a power of two; DRILLOLIVE_OVERFLOW with a point whose
    numerators do not fit. After an error no control has moved. */
@@ -455,7 +455,7 @@ drillolive_fault drillolive_session_move_exact(drillolive_session *session, cons
    session without `const`. NULL if `session` is not a session or `count` is NULL. */
 const uint32_t *drillolive_session_take_changed(drillolive_session *session, size_t *count);
 
-/* Read the points of the session with these numbers, or its first `count` points if `points` is NULL: the nearest doubles or floats, three a point; or three
+/* Read the points of the session with these numbers, or its first `count` points if `points` is NULL. A point has three nearest doubles or floats, or three
    numerators and a denominator. Errors: DRILLOLIVE_RANGE for a missing point. */
 drillolive_fault drillolive_session_read_doubles(const drillolive_session *session, const uint32_t *points, size_t count, double *out);
 drillolive_fault drillolive_session_read_floats(const drillolive_session *session, const uint32_t *points, size_t count, float *out);
