@@ -1,8 +1,8 @@
 /* Drillolive for C++17: owners of the handles of drillolive.h, which says what each call does, what is proved and what is only tested.
 
    An owner can be moved and not copied, and frees its handle. A call that may fail returns a `result`, which has a fault or a value. Where
-   DRILLOLIVE_EXCEPTIONS is defined, `value` of a fault throws `drillolive::error`; else asking for a value that is not there is a mistake of
-   the caller, as it is with std::optional. A `view` is a pointer and a length into a handle, and ends with it. */
+   DRILLOLIVE_EXCEPTIONS is defined, `value` of a fault throws `drillolive::error`. Otherwise the caller must test the result first, as with
+   std::optional. A `view` is a pointer and a length into memory that a handle or the caller owns, and ends with it. */
 #ifndef DRILLOLIVE_HPP
 #define DRILLOLIVE_HPP
 
@@ -205,7 +205,7 @@ public:
     static result<table> of_texture(const mesh &cage, std::uint32_t depth, drillolive_seams seams, drillolive_form form = DRILLOLIVE_DOUBLES) {
         return detail::made<table, drillolive_table>(drillolive_table_new_texture, cage.get(), depth, seams, form);
     }
-    /* The exact table of the text of a stored one, which the bytes begin with. */
+    /* The exact table of a stored text. Text behind the table is not read. */
     static result<table> of_stored(const std::string &text) {
         drillolive_table *handle = nullptr;
         std::size_t used = 0;
