@@ -64,7 +64,7 @@ const char *drillolive_version(void);
 
 /* ---- Faults ---- */
 
-/* The result of a call. The program `far` ends with the same numbers up to 16. */
+/* The result of a call. The program `far` ends with 0 and with 2 to 16 of these. */
 enum drillolive_status {
     DRILLOLIVE_DONE = 0,
     DRILLOLIVE_TOO_SHORT = 1,      /* an internal array was too short twice: a mistake of the library */
@@ -78,11 +78,11 @@ enum drillolive_status {
     DRILLOLIVE_LIMIT = 9,          /* a point has no limit mask; first: the point */
     DRILLOLIVE_WRITE = 10,         /* run: a write failed; no call here returns it */
     DRILLOLIVE_MEMORY = 11,        /* memory ran out */
-    DRILLOLIVE_PLACE = 13,         /* the face does not exist, or has no such place or patch; first: the face, or the number of faces */
+    DRILLOLIVE_PLACE = 13,         /* the face does not exist, is a hole, or has no such place or patch; first: the face, or the number of faces */
     DRILLOLIVE_TABLE = 14,         /* a stored table is malformed; first: the line */
     DRILLOLIVE_DIFFERS = 15,       /* a stored table belongs to another mesh; first: the row */
     DRILLOLIVE_CONTROLS = 16,      /* run: the number of points is wrong; first: the number */
-    DRILLOLIVE_BAD_ARRAYS = 17,    /* an array of the mesh is wrong; first: the place */
+    DRILLOLIVE_BAD_ARRAYS = 17,    /* an array is wrong; kind: which one; first: the place, or the row */
     DRILLOLIVE_BAD_NUMBER = 18,    /* a double or float is not finite (kind 0), or its fraction too wide (kind 1); first: the place */
     DRILLOLIVE_BAD_ARGUMENT = 19,  /* an option such as the depth is out of range, or the mesh has no texture for a call that needs it */
     DRILLOLIVE_NULL = 20,          /* a pointer is NULL; first: the argument, counted from 0 */
