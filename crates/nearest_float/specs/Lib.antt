@@ -5,3 +5,4 @@ pub mod Exact
 pub mod Terms
 pub mod Faults
 pub mod Lists
+pub mod FaultText

@@ -1,5 +1,8 @@
 //! The faults of bits without a fraction.
 
+ghost use Rattle.std.specs.Prelude.{Some};
+ghost use Rattle.nearest_float.specs.FaultText.{float_fault_text, list_fault_text};
+
 use ratio128::Memory;
 use std::alloc::AllocError;
 use std::fmt;
@@ -14,6 +17,8 @@ pub enum FloatFault {
 }
 
 impl fmt::Display for FloatFault {
+    ghost output = { λ fault. Some (float_fault_text fault) };
+
     fn fmt<W: fmt::Write>(&self, f: &mut fmt::Formatter<W>) -> fmt::Result {
         match self {
             FloatFault::NotFinite => f.write_str("not a finite number"),
@@ -34,8 +39,10 @@ pub enum ListFault {
 }
 
 impl fmt::Display for ListFault {
+    ghost output = { λ fault. Some (list_fault_text fault) };
+
     fn fmt<W: fmt::Write>(&self, f: &mut fmt::Formatter<W>) -> fmt::Result {
-        match self {
+        match *self {
             ListFault::At(place, fault) => write!(f, "number {place}: {fault}"),
             ListFault::Memory => f.write_str(Memory.text()),
         }
