@@ -5,3 +5,4 @@ pub mod Nearest
 pub mod Amounts
 pub mod Grid
 pub mod Answers
+pub mod FaultText

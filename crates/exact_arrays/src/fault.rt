@@ -1,5 +1,8 @@
 //! The refused number of a list, and its fault.
 
+ghost use Rattle.std.specs.Prelude.{Some};
+ghost use Rattle.exact_arrays.specs.FaultText.{number_fault_text};
+
 use nearest_float::FloatFault;
 use std::fmt;
 
@@ -13,8 +16,11 @@ pub struct NumberFault {
 }
 
 impl fmt::Display for NumberFault {
+    ghost output = { λ fault. Some (number_fault_text fault) };
+
     fn fmt<W: fmt::Write>(&self, f: &mut fmt::Formatter<W>) -> fmt::Result {
-        write!(f, "number {}: {}", self.place, self.fault)
+        let NumberFault { place, fault } = *self;
+        write!(f, "number {place}: {fault}")
     }
 }
 
