@@ -1,5 +1,8 @@
 //! The fault that stopped the rounding of fractions.
 
+ghost use Rattle.std.specs.Prelude.{Some};
+ghost use Rattle.row_arrays.specs.FaultText.{fraction_fault_text};
+
 use std::fmt;
 
 /// The fault that stopped the rounding of fractions. Nothing was written.
@@ -14,8 +17,10 @@ pub enum FractionFault {
 }
 
 impl fmt::Display for FractionFault {
+    ghost output = { λ fault. Some (fraction_fault_text fault) };
+
     fn fmt<W: fmt::Write>(&self, f: &mut fmt::Formatter<W>) -> fmt::Result {
-        match self {
+        match *self {
             FractionFault::Short => f.write_str("an array is too short"),
             FractionFault::Denominator(place) => write!(
                 f,

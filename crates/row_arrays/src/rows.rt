@@ -1,5 +1,8 @@
 //! Rows and controls in arrays of a caller.
 
+ghost use Rattle.std.specs.Prelude.{Some};
+ghost use Rattle.row_arrays.specs.FaultText.{row_fault_text};
+
 use flat_arrays::Wide;
 use std::fmt;
 
@@ -63,8 +66,10 @@ pub enum RowFault {
 }
 
 impl fmt::Display for RowFault {
+    ghost output = { λ fault. Some (row_fault_text fault) };
+
     fn fmt<W: fmt::Write>(&self, f: &mut fmt::Formatter<W>) -> fmt::Result {
-        match self {
+        match *self {
             RowFault::Range => f.write_str("no range of the rows"),
             RowFault::Short => f.write_str("the array is too short"),
             RowFault::Row(row) => write!(f, "row {row} is not within the arrays"),
