@@ -4,3 +4,4 @@ pub mod Laws
 pub mod Made
 pub mod Starts
 pub mod Parts
+pub mod FaultText

@@ -1,4 +1,5 @@
-ghost use Rattle.std.specs.Prelude.{◌≡◌};
+ghost use Rattle.std.specs.Prelude.{Some, ◌≡◌};
+ghost use Rattle.raw_mesh.specs.FaultText.{bad_part_text, parts_fault_text};
 
 use ratio128::Memory;
 use std::alloc::{AllocError, AllocFailed};
@@ -37,6 +38,8 @@ pub enum BadPart {
 }
 
 impl fmt::Display for BadPart {
+    ghost output = { λ fault. Some (bad_part_text fault) };
+
     fn fmt<W: fmt::Write>(&self, f: &mut fmt::Formatter<W>) -> fmt::Result {
         match *self {
             BadPart::PointScale => f.write_str("the scale of the points is not from 1 to 10^37"),
@@ -77,6 +80,8 @@ pub enum PartsFault {
 }
 
 impl fmt::Display for PartsFault {
+    ghost output = { λ fault. Some (parts_fault_text fault) };
+
     fn fmt<W: fmt::Write>(&self, f: &mut fmt::Formatter<W>) -> fmt::Result {
         match self {
             PartsFault::Bad(bad) => write!(f, "{bad}"),
