@@ -1,7 +1,8 @@
 //! The fault that kept arrays from becoming a mesh.
 
-ghost use Rattle.std.specs.Prelude.{◌≡◌};
+ghost use Rattle.std.specs.Prelude.{Some, ◌≡◌};
 ghost use Rattle.mesh_arrays.specs.Faults as spec;
+ghost use Rattle.mesh_arrays.specs.FaultText.{arrays_fault_text};
 
 use ratio128::Memory;
 use raw_mesh::{BadPart, PartsFault};
@@ -26,6 +27,8 @@ pub enum ArraysFault {
 }
 
 impl fmt::Display for ArraysFault {
+    ghost output = { λ fault. Some (arrays_fault_text fault) };
+
     fn fmt<W: fmt::Write>(&self, f: &mut fmt::Formatter<W>) -> fmt::Result {
         match *self {
             ArraysFault::Boundary => f.write_str("the boundary mode is not from 0 to 2"),
