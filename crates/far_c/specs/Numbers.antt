@@ -1,5 +1,5 @@
 -- The result of the calls for the exact numerators of doubles and floats.
-use Rattle.std.specs.Prelude.{ℕ, ◌≡◌, ◌<◌, ◌⊎◌, List, length, map, take}
+use Rattle.std.specs.Prelude.{ℕ, ◌≡◌, ◌<◌, ◌≤◌, ◌⊎◌, List, length, map, take}
 use Rattle.nearest_float.specs.Binary.{Format}
 use Rattle.flat_arrays.specs.Words.{integer_of}
 use Rattle.flat_arrays.specs.declared.wide.Wide.{Wide}
@@ -29,5 +29,6 @@ AnswersScale f bits status scale old new fault =
 -- a grid finer than 2^-126 is refused before any number
 abbrev pub AnswersRounding : Format → ℕ → List ℕ → ℕ → ℕ → List Wide → List Wide → FaultRecord → Type 0
 AnswersRounding f grid_bits bits status changed old new fault =
-    IsStatus status (AreRounded f grid_bits bits changed (map integer_of (take (length bits) new))) (IsShort bits old new)
-    (λ found. ((126 < grid_bits) × (found ≡ row 19 0 0 0)) ⊎ IsNumberRefused (IsRoundFault f grid_bits bits) found) fault
+    IsStatus status ((grid_bits ≤ 126) × AreRounded f grid_bits bits changed (map integer_of (take (length bits) new)))
+    ((grid_bits ≤ 126) × IsShort bits old new)
+    (λ found. ((126 < grid_bits) × (found ≡ row 19 0 0 0)) ⊎ ((grid_bits ≤ 126) × IsNumberRefused (IsRoundFault f grid_bits bits) found)) fault
