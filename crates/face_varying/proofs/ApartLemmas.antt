@@ -117,9 +117,9 @@ module _ (mesh : ObjMesh) (base : Topology) (cuttable : IsCuttable mesh base) (i
     apart-by listed same = ap (λ (xs : List ℕ). nat_eq (length xs) 1 || is_seam_of mesh edge xs) (ap (λ (polygons : List Polygon). faces_of_edge polygons edge) (sym (same-faces mesh base cuttable)) ∙ same)
 
     -- an edge of one face
-    pub apart-alone : (first : ℕ) (second : Option ℕ) → is_none second ≡ true → first ∷ option_to_list second ≡ faces_of_edge faces edge → true ≡ is_apart mesh edge
-    apart-alone first None none same = sym (apart-by (first ∷ []) (sym same))
-    apart-alone first (Some g) none same = absurd (cc)
+    pub apart-one : (first : ℕ) (second : Option ℕ) → is_none second ≡ true → first ∷ option_to_list second ≡ faces_of_edge faces edge → true ≡ is_apart mesh edge
+    apart-one first None none same = sym (apart-by (first ∷ []) (sym same))
+    apart-one first (Some g) none same = absurd (cc)
 
     -- an edge of two
     pub apart-two : (first : ℕ) (second : Option ℕ) → is_none second ≡ false → first ∷ option_to_list second ≡ faces_of_edge faces edge

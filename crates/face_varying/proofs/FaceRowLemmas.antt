@@ -50,10 +50,10 @@ module _ (mesh : ObjMesh) (base : Topology) (cuttable : IsCuttable mesh base) (f
       → next_against ≡ (if nat_eq ends.0 (get_or vertices c 0) then against else slice_set against (get_or edges c 0) (get_or texture next 0, get_or texture c 0))
       → AreNoted base.level.polygons mesh.texture_corners next_along next_against (start_of base.level.polygons f + (c + 1))
   noted-corner is along against next_along next_against ends next exists ends_are next_is before p q =
-      noted-more base.level.polygons mesh.texture_corners is.simple is.sides_once along against next_along next_against f c (get_or edges c 0) (get_or texture c 0) (get_or texture next 0) (nat_eq ends.0 (get_or vertices c 0)) exists corner before number edge-listed way numbers p q
+      noted-more base.level.polygons mesh.texture_corners is.simple is.sides_once along against next_along next_against f c (get_or edges c 0) (get_or texture c 0) (get_or texture next 0) (nat_eq ends.0 (get_or vertices c 0)) exists corner before number edge-listed direction numbers p q
     where
-      way : nat_eq ends.0 (get_or vertices c 0) ≡ is_along base.level.polygons (side_at (polygon_at base.level.polygons f) c)
-      way =
+      direction : nat_eq ends.0 (get_or vertices c 0) ≡ is_along base.level.polygons (side_at (polygon_at base.level.polygons f) c)
+      direction =
           ap (λ (pair : ℕ × ℕ). nat_eq pair.0 (get_or vertices c 0)) ends_are
           ∙ ap (λ (n : ℕ). nat_eq (edge_at base.level.polygons n).0 (get_or vertices c 0)) number
           ∙ ap (λ (xs : List ℕ). nat_eq (edge_at base.level.polygons (edge_number base.level.polygons (side_at (polygon_at base.level.polygons f) c))).0 (get_or xs c 0)) vertices_are

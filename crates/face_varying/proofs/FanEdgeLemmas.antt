@@ -130,8 +130,8 @@ module _ (mesh : ObjMesh) (t : Topology) (cuttable : IsCuttable mesh t) (is : Is
   edge-once i j hi hj e = distinct-places (get_or t.edges_at v []) i j (edges-once t v is inside) hi hj e
 
   -- about a path the first edge has one face
-  first-alone : edge_count ≡ face_count t v + 1 → 0 < face_count t v → is_boundary t.level.polygons (edge_at t.level.polygons (edge_in 0)) ≡ true
-  first-alone path some =
+  first-outer : edge_count ≡ face_count t v + 1 → 0 < face_count t v → is_boundary t.level.polygons (edge_at t.level.polygons (edge_in 0)) ≡ true
+  first-outer path some =
       let e = edge_in 0 in
       let there = edges-each t v 0 is inside (omega (arith, path)) in
       let few = edge-few t e is there.exists in
@@ -201,4 +201,4 @@ module _ (mesh : ObjMesh) (t : Topology) (cuttable : IsCuttable mesh t) (is : Is
     pub first-cut : edge_count ≡ face_count t v + 1 → 0 < face_count t v → is_cut t apart v 0 ≡ true
     first-cut path some =
         cut-is 0 (omega (arith, path))
-        ∙ or_left _ _ (ap (λ (polygons : List Polygon). is_boundary polygons (edge_at t.level.polygons (edge_in 0))) (sym (same-faces mesh t cuttable)) ∙ first-alone path some)
+        ∙ or_left _ _ (ap (λ (polygons : List Polygon). is_boundary polygons (edge_at t.level.polygons (edge_in 0))) (sym (same-faces mesh t cuttable)) ∙ first-outer path some)

@@ -161,15 +161,15 @@ module _ (mesh : ObjMesh) (t : Topology) (cuttable : IsCuttable mesh t) (is : Is
             (step i k (omega (arith, h)) (omega (arith, later, h)) (ap (is_cut t apart v) later ∙ none) joined)
 
         closes : (k : ℕ) → 0 < face_count t v → is_cut t apart v 0 ≡ false → is_among (joined_faces mesh v (face (face_count t v - 1))) (face k) ≡ true → is_among (joined_faces mesh v (face 0)) (face k) ≡ true
-        closes k some none joined = way (edges-around mesh t cuttable is v inside)
+        closes k some none joined = by-count (edges-around mesh t cuttable is v inside)
           where
-            way : (edge_count mesh t cuttable is v inside ≡ face_count t v) ⊎ (edge_count mesh t cuttable is v inside ≡ face_count t v + 1) → is_among (joined_faces mesh v (face 0)) (face k) ≡ true
-            way (inl whole) =
+            by-count : (edge_count mesh t cuttable is v inside ≡ face_count t v) ⊎ (edge_count mesh t cuttable is v inside ≡ face_count t v + 1) → is_among (joined_faces mesh v (face 0)) (face k) ≡ true
+            by-count (inl whole) =
                 let last : nat_eq (face_count t v - 1 + 1) (edge_count mesh t cuttable is v inside) ≡ true = eq-eqb _ _ (omega (arith, whole, some)) in
                 let first : after (face_count t v - 1) ≡ 0 = rw last refl in
                 subst (λ (n : ℕ). is_among (joined_faces mesh v (face n)) (face k) ≡ true) first
                 (step (face_count t v - 1) k (omega (arith, some)) (omega (arith, first, some)) (ap (is_cut t apart v) first ∙ none) joined)
-            way (inr path) = let cut = first-cut mesh t cuttable is v inside apart marks path some in absurd (cc)
+            by-count (inr path) = let cut = first-cut mesh t cuttable is v inside apart marks path some in absurd (cc)
 
     -- the label of a face at the vertex is the corner there of a face that is joined with it
     pub label-joined : (f : ℕ) → has_corner v (polygon_at t.level.polygons f) ≡ true → (i : ℕ) × (i < face_count t v) × (label f ≡ corner_in t v i) × (is_among (joined_faces mesh v f) (face i) ≡ true)

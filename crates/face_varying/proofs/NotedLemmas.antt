@@ -47,7 +47,7 @@ module _ (polygons : List Polygon) (texture : List (List ℕ)) (simple : list_al
       → forward ≡ is_along polygons (side_at (polygon_at polygons f) c) → (s, t) ≡ side_at (polygon_at texture f) c
       → next_along ≡ (if forward then slice_set along e (s, t) else along) → next_against ≡ (if forward then against else slice_set against e (t, s))
       → AreNoted polygons texture next_along next_against (start_of polygons f + (c + 1))
-  noted-more along against next_along next_against f c e s t forward inside corner before number listed way numbers p q = record {
+  noted-more along against next_along next_against f c e s t forward inside corner before number listed is-along numbers p q = record {
     along_size = noted-length along next_along forward e (s, t) p ∙ before.along_size;
     against_size = kept-length against next_against forward e (t, s) q ∙ before.against_size;
     each = λ g d inside_g corner_g h. which g d inside_g corner_g h (nat_lt (start_of polygons g + d) (start_of polygons f + c)) refl;
@@ -55,7 +55,7 @@ module _ (polygons : List Polygon) (texture : List (List ℕ)) (simple : list_al
     where
       here : noted next_along next_against (is_along polygons (side_at (polygon_at polygons f) c)) (edge_number polygons (side_at (polygon_at polygons f) c)) ≡ by_end (is_along polygons (side_at (polygon_at polygons f) c)) (side_at (polygon_at texture f) c)
       here =
-          subst (λ (b : Bool). noted next_along next_against b (edge_number polygons (side_at (polygon_at polygons f) c)) ≡ by_end b (side_at (polygon_at texture f) c)) way
+          subst (λ (b : Bool). noted next_along next_against b (edge_number polygons (side_at (polygon_at polygons f) c)) ≡ by_end b (side_at (polygon_at texture f) c)) is-along
           (ap (noted next_along next_against forward) (sym number)
           ∙ noted-here along against next_along next_against forward e s t (omega (arith, listed, before.along_size)) (omega (arith, listed, before.against_size)) p q
           ∙ ap (by_end forward) numbers)
@@ -64,7 +64,7 @@ module _ (polygons : List Polygon) (texture : List (List ℕ)) (simple : list_al
           → noted next_along next_against (is_along polygons (side_at (polygon_at polygons g) d)) (edge_number polygons (side_at (polygon_at polygons g) d)) ≡ by_end (is_along polygons (side_at (polygon_at polygons g) d)) (side_at (polygon_at texture g) d)
       which g d inside_g corner_g h true earlier =
           noted-other along against next_along next_against forward (is_along polygons (side_at (polygon_at polygons g) d)) e (edge_number polygons (side_at (polygon_at polygons g) d)) s t (λ same also.
-          let one = side-place-once polygons simple distinct g d f c corner_g corner (same ∙ number) (also ∙ way) in
+          let one = side-place-once polygons simple distinct g d f c corner_g corner (same ∙ number) (also ∙ is-along) in
           let place : start_of polygons g + d ≡ start_of polygons f + c = ap (λ (n : ℕ). start_of polygons n + d) one.0 ∙ ap (λ (n : ℕ). start_of polygons f + n) one.1 in
           let less = ltb-true _ _ earlier in
           omega arith) p q

@@ -38,14 +38,14 @@ are-inside points corners b is asserted k d h =
     ltb-true (get_or corners k d) points (AllPass-from_list_all (λ v. nat_lt v points) corners (sym is ∙ asserted) k d h)
 
 -- an edge goes one way or the other
-either-way : (a b : ℕ) (sides : List (ℕ × ℕ)) → list_any (same_edge (a, b)) sides ≡ (list_any (same_side (a, b)) sides || list_any (same_side (b, a)) sides)
-either-way a b [] = refl
-either-way a b (side ∷ sides) = grind (arith, nat_tests, either-way a b sides)
+either-direction : (a b : ℕ) (sides : List (ℕ × ℕ)) → list_any (same_edge (a, b)) sides ≡ (list_any (same_side (a, b)) sides || list_any (same_side (b, a)) sides)
+either-direction a b [] = refl
+either-direction a b (side ∷ sides) = grind (arith, nat_tests, either-direction a b sides)
 
 pub edge-found : (a b : ℕ) (kept polygons : List Polygon) → kept ≡ polygons → (list_any (has_side (a, b)) polygons || list_any (has_side (b, a)) polygons) ≡ true → list_any (same_edge (a, b)) (edges_of kept) ≡ true
 edge-found a b kept polygons same found =
     ap (λ (ps : List Polygon). list_any (same_edge (a, b)) (edges_of ps)) same
-    ∙ any-first_named (a, b) (all_sides polygons) ∙ either-way a b (all_sides polygons)
+    ∙ any-first_named (a, b) (all_sides polygons) ∙ either-direction a b (all_sides polygons)
     ∙ ap (λ t. t || list_any (same_side (b, a)) (all_sides polygons)) (sym (any-side (a, b) polygons))
     ∙ ap (λ t. list_any (has_side (a, b)) polygons || t) (sym (any-side (b, a) polygons)) ∙ found
 

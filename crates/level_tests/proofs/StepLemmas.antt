@@ -47,7 +47,7 @@ quarter-can-refine = rw (square-is) record {
   edges = refl;
   complete = whole;
   inside = λ same e h. inr (ap is_at_least_one (outer e (edge-below e h)));
-  boundary = λ same v h e within ends alone. outer e within;
+  boundary = λ same v h e within ends one-face. outer e within;
   fine = λ same v h. refl;
 }
 

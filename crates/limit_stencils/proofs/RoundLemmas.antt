@@ -31,12 +31,12 @@ alike (Semi num den) = refl
 alike Infinite = refl
 
 -- if all edges of one face are sharp, one that ends at a point is a sharp edge there
-any-sharp : {X : Type 0} (alone end sharp : X → Bool) (xs : List X) → list_all (λ x. not (alone x) || sharp x) xs ≡ true
-    → list_any (λ x. alone x && end x) xs ≡ true → list_any (λ x. end x && sharp x) xs ≡ true
-any-sharp alone end sharp [] h k = k
-any-sharp alone end sharp (x ∷ xs) h k =
-    let parts = and_parts (not (alone x) || sharp x) (list_all (λ y. not (alone y) || sharp y) xs) h in
-    here (alone x) (end x) (sharp x) (list_any (λ y. alone y && end y) xs) (list_any (λ y. end y && sharp y) xs) parts.0 k (any-sharp alone end sharp xs parts.1)
+any-sharp : {X : Type 0} (single end sharp : X → Bool) (xs : List X) → list_all (λ x. not (single x) || sharp x) xs ≡ true
+    → list_any (λ x. single x && end x) xs ≡ true → list_any (λ x. end x && sharp x) xs ≡ true
+any-sharp single end sharp [] h k = k
+any-sharp single end sharp (x ∷ xs) h k =
+    let parts = and_parts (not (single x) || sharp x) (list_all (λ y. not (single y) || sharp y) xs) h in
+    here (single x) (end x) (sharp x) (list_any (λ y. single y && end y) xs) (list_any (λ y. end y && sharp y) xs) parts.0 k (any-sharp single end sharp xs parts.1)
   where
     or-true : (b : Bool) → (b || true) ≡ true
     or-true true = refl

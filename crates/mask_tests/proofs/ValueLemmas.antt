@@ -69,7 +69,7 @@ module _ (parent : Topology) (child : ChildTopology) (refined : IsRefined parent
     edges = ap (λ (c : ChildTopology). c.parent_edges) refined.uniform.of;
     complete = λ v h. whole v (vertex-of v h);
     inside = λ same e h. inl (closed e (edge-of e h));
-    boundary = λ same v h e within ends alone. let none : false ≡ true = ap (λ n. nat_eq n 1) (sym (closed e within)) ∙ alone in absurd (cc);
+    boundary = λ same v h e within ends one-face. let none : false ≡ true = ap (λ n. nat_eq n 1) (sym (closed e within)) ∙ one-face in absurd (cc);
     fine = λ same v h. refined.fine v (vertex-of v h);
   }
 

@@ -28,10 +28,10 @@ filter-one kind before line is = filter-append kind before (line ∷ []) ∙ one
 
 count-last : (kind : Line → Bool) (before : List Line) (line : Line)
     → count_by kind (before ++ line ∷ []) ≡ count_by kind before + cond (kind line) 1 0
-count-last kind before line = sum_by-append (λ w. cond (kind w) 1 0) before (line ∷ []) ∙ ap (λ n. count_by kind before + n) alone
+count-last kind before line = sum_by-append (λ w. cond (kind w) 1 0) before (line ∷ []) ∙ ap (λ n. count_by kind before + n) one-line
   where
-    alone : count_by kind (line ∷ []) ≡ cond (kind line) 1 0
-    alone = omega arith
+    one-line : count_by kind (line ∷ []) ≡ cond (kind line) 1 0
+    one-line = omega arith
 
 -- a line of another channel
 pub channel-other : (Q : Type 0) (kind : Line → Bool) (over : ℕ → Line → Q) (common : ℕ) (numbers : List Q) (long : Option ℕ) (before : List Line) (line : Line)

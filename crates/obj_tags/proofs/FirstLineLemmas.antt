@@ -12,15 +12,15 @@ one_fault n cause = option_map (λ c. record { line = suc n; cause = c }) cause
 
 from-more : (cause_at : ℕ → Option ObjCause) (start count : ℕ)
     → first_from cause_at start (suc count) ≡ option_or (first_from cause_at start count) (fault_of cause_at (start + count))
-from-more cause_at start zero = alone (cause_at start) refl
+from-more cause_at start zero = by-cause (cause_at start) refl
   where
     same : start + 0 ≡ start
     same = omega arith
 
-    alone : (r : Option ObjCause) → r ≡ cause_at start
+    by-cause : (r : Option ObjCause) → r ≡ cause_at start
         → first_from cause_at start 1 ≡ fault_of cause_at (start + 0)
-    alone None e = good-first cause_at start 0 (sym e) ∙ sym (ap (fault_of cause_at) same ∙ ap (one_fault start) (sym e))
-    alone (Some c) e = bad-first cause_at start 0 c (sym e) ∙ sym (ap (fault_of cause_at) same ∙ ap (one_fault start) (sym e))
+    by-cause None e = good-first cause_at start 0 (sym e) ∙ sym (ap (fault_of cause_at) same ∙ ap (one_fault start) (sym e))
+    by-cause (Some c) e = bad-first cause_at start 0 c (sym e) ∙ sym (ap (fault_of cause_at) same ∙ ap (one_fault start) (sym e))
 from-more cause_at start (suc count) = step (cause_at start) refl (from-more cause_at (start + 1) count)
   where
     same : start + 1 + count ≡ start + suc count

@@ -111,7 +111,7 @@ module _ (test : FaceFacts → Bool) (t : SparseTopology) (of : SparseOf test t)
       edges = ap (λ (c : ChildTopology). c.parent_edges) refined.of;
       complete = λ v h. on-complete kept by v (vertex-of v h).1;
       inside = λ same e h. inside e (edge-of e h);
-      boundary = λ same v h e within ends alone. sharp-at-complete kept e v boundary (on-complete kept by v (vertex-of v h).1) within ends alone;
+      boundary = λ same v h e within ends one-face. sharp-at-complete kept e v boundary (on-complete kept by v (vertex-of v h).1) within ends one-face;
       fine = λ same v h. refined.fine v (vertex-of v h).0 (vertex-of v h).1;
     }
       where
@@ -122,5 +122,5 @@ module _ (test : FaceFacts → Bool) (t : SparseTopology) (of : SparseOf test t)
             go : (b : Bool) → is_boundary t.topology.level.polygons (edge_at t.topology.level.polygons e) ≡ b
                 → (1 ≤ length (faces_of_edge t.topology.level.polygons (edge_at t.topology.level.polygons e))) × (length (faces_of_edge t.topology.level.polygons (edge_at t.topology.level.polygons e)) ≤ 2)
                 → (length (faces_of_edge t.topology.level.polygons (edge_at t.topology.level.polygons e)) ≡ 2) ⊎ IsTrue (is_at_least_one (get_or t.topology.level.edge_sharpness e Smooth))
-            go true alone few = inr (ap is_at_least_one (sharp-at-complete kept e at.w boundary (on-complete kept by at.w at.on) at.exists at.end alone))
-            go false alone few = inl (two-faces (length (faces_of_edge t.topology.level.polygons (edge_at t.topology.level.polygons e))) alone few.0 few.1)
+            go true one-face few = inr (ap is_at_least_one (sharp-at-complete kept e at.w boundary (on-complete kept by at.w at.on) at.exists at.end one-face))
+            go false one-face few = inl (two-faces (length (faces_of_edge t.topology.level.polygons (edge_at t.topology.level.polygons e))) one-face few.0 few.1)

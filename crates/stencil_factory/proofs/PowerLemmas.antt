@@ -31,10 +31,10 @@ power-divides m c p q le =
     let Q : ℕ → Type 0 = λ n. 2 ^ p.exponent ∣ n in
     subst P (sym p.is) (subst Q (sym q.is) (divides p.exponent q.exponent le))
 
-either-way : (i j : ℕ) → (i ≤ j) ⊎ (j ≤ i)
-either-way zero j = inl (omega arith)
-either-way (suc i) zero = inr (omega arith)
-either-way (suc i) (suc j) = one-more (either-way i j)
+either-order : (i j : ℕ) → (i ≤ j) ⊎ (j ≤ i)
+either-order zero j = inl (omega arith)
+either-order (suc i) zero = inr (omega arith)
+either-order (suc i) (suc j) = one-more (either-order i j)
   where
     one-more : (i ≤ j) ⊎ (j ≤ i) → (suc i ≤ suc j) ⊎ (suc j ≤ suc i)
     one-more (inl h) = inl (omega (arith, h))
@@ -43,7 +43,7 @@ either-way (suc i) (suc j) = one-more (either-way i j)
 -- the greater of two powers of two is one, and their least common multiple within the bound
 greater-power : (m c r : ℕ) (p : IsPower m) (q : IsPower c) → r ≡ max m c
     → IsPower r × ((a b : ℕ) → m ≡ within_bound a → c ≡ within_bound b → r ≡ within_bound (lcm_of a b))
-greater-power m c r p q is = by-order (either-way p.exponent q.exponent)
+greater-power m c r p q is = by-order (either-order p.exponent q.exponent)
   where
     by-order : (p.exponent ≤ q.exponent) ⊎ (q.exponent ≤ p.exponent)
         → IsPower r × ((a b : ℕ) → m ≡ within_bound a → c ≡ within_bound b → r ≡ within_bound (lcm_of a b))

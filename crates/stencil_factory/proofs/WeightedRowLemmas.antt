@@ -80,18 +80,18 @@ module _ (table : Table) (is : IsTable table) (m : ℕ) (weight : Share) (some :
   one-added sums new added = added ∙ sym (ap (λ ws. added_rows table ws sums) own)
 
   module _ (most : ℕ) (sums : List ℕ) (can : CanAddRows most table (amounts_of (dens_of table) m (weighing (weight ∷ []))) sums) where
-    alone : CanAddRows most table ((weight.0, amount) ∷ []) sums
-    alone = subst (λ ws. CanAddRows most table ws sums) own can
+    single : CanAddRows most table ((weight.0, amount) ∷ []) sums
+    single = subst (λ ws. CanAddRows most table ws sums) own can
 
     pub one-above : 0 < amount
-    one-above = alone.each.0
+    one-above = single.each.0
 
     pub one-fits : sum_of sums + amount * total_of (row_at table weight.0).shares ≤ most
-    one-fits = omega (arith, alone.fits, sum_by-cons (λ (w : Share). w.1 * total_of (row_at table w.0).shares) (weight.0, amount) [])
+    one-fits = omega (arith, single.fits, sum_by-cons (λ (w : Share). w.1 * total_of (row_at table w.0).shares) (weight.0, amount) [])
 
     pub one-small : amount ≤ most
     one-small =
-        let row = row-is table is weight.0 alone.inside.0 in
+        let row = row-is table is weight.0 single.inside.0 in
         omega (arith, one-fits, grows amount (total_of (row_at table weight.0).shares) (omega (arith, row.positive, row.whole)))
       where
         grows : (a d : ℕ) → 0 < d → a ≤ a * d

@@ -94,10 +94,10 @@ line-kept words others plain =
     ∙ cond-true (not (is_table_line words)) (words ∷ lines_before_table others) [] (not_from_false (is_table_line words) plain)
 
 -- no line is kept from the first that begins a table
-table-met : (words : List (List ℕ)) (others : List (List (List ℕ))) → is_table_line words ≡ true → lines_before_table (words ∷ others) ≡ []
-table-met words others met =
+table-first : (words : List (List ℕ)) (others : List (List (List ℕ))) → is_table_line words ≡ true → lines_before_table (words ∷ others) ≡ []
+table-first words others is-table =
     take_while-cons (λ line. not (is_table_line line)) words others
-    ∙ cond-false (not (is_table_line words)) (words ∷ lines_before_table others) [] (ap not met)
+    ∙ cond-false (not (is_table_line words)) (words ∷ lines_before_table others) [] (ap not is-table)
 
 kept-more : (before : List (List (List ℕ))) (words : List (List ℕ))
     → ((others : List (List (List ℕ))) → lines_before_table (before ++ others) ≡ before ++ lines_before_table others)
@@ -202,10 +202,10 @@ module _ (bytes : List ℕ) (start lines finish : ℕ) (scanned : IsScanned byte
   -- a search ends where a line begins a table
   pub placed-table : is_table_line (line_words (take (finish - start) (drop start bytes))) ≡ true
       → IsTablePlace bytes (record { lines = lines; start = start })
-  placed-table met =
+  placed-table is-table =
       placed-here bytes start lines scanned
       (ap lines_before_table rest-words
-      ∙ table-met (line_words (line-from bytes start)) (map line_words (lines_of (behind-from bytes start))) (cut-words true met))
+      ∙ table-first (line_words (line-from bytes start)) (map line_words (lines_of (behind-from bytes start))) (cut-words true is-table))
 
   -- a search ends behind a last line without a line feed
   pub placed-last : is_table_line (line_words (take (finish - start) (drop start bytes))) ≡ false → finish ≡ length bytes

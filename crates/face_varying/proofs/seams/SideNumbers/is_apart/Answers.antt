@@ -1,11 +1,11 @@
 use Rattle.std.proofs.Common.{ℕ, arith, ap, ◌∙◌, ◌≡◌, not, get_or}
 use Rattle.std.proofs.lemmas.List.{get_or_default}
-use Rattle.face_varying.proofs.ApartLemmas.{differ, apart-alone, apart-two}
+use Rattle.face_varying.proofs.ApartLemmas.{differ, apart-one, apart-two}
 use Rattle.face_varying.proofs.seams.SideNumbers.is_apart.Goals as goal
 
 pub returns-then-is_none : goal.returns-then-is_none
 returns-then-is_none c =
-    apart-alone c.args.raw.now c.args.level.now c.requires.cuttable c.facts.ensures c.args.self.now.along.items c.args.self.now.against.items c.requires.noted c.args.edge c.requires.edge c.edge_faces.result.first c.edge_faces.result.second (ap not c.if-is_none.ensures) c.edge_faces.ensures
+    apart-one c.args.raw.now c.args.level.now c.requires.cuttable c.facts.ensures c.args.self.now.along.items c.args.self.now.against.items c.requires.noted c.args.edge c.requires.edge c.edge_faces.result.first c.edge_faces.result.second (ap not c.if-is_none.ensures) c.edge_faces.ensures
 
 pub returns : goal.returns
 returns c =
