@@ -155,6 +155,7 @@ pub fn refine<L: Ledger>(
     ensures refined { MatchResult result (IsRefined level.now) (IsRefusal level.now) }
     ensures steps { steps.new ≤ steps.old + sum_by length level.now.level.polygons }
     ensures later { steps.old ≤ steps.new }
+    ensures early { 2 ^ 22 < sum_by length level.now.level.polygons → steps.new ≡ steps.old }
 {
     let faces = next_faces(level);
     if faces > FACE_LIMIT {
