@@ -1,7 +1,8 @@
 //! The sharpness of the halves of all edges, by their slots. No half depends on the order of the edges at its point.
 
-ghost use Rattle.std.specs.Prelude.{◌≡◌, ℕ, ◌+◌, ◌*◌, ◌<◌, Bool, true, length, map, IfOk, MatchResult, OnOk};
+ghost use Rattle.std.specs.Prelude.{◌≡◌, ℕ, ◌+◌, ◌*◌, ◌<◌, Bool, true, length, map, replicate, IfOk, MatchResult, OnOk};
 ghost use Rattle.subdiv_model.specs.Edges.{edges_of};
+ghost use Rattle.subdiv_model.specs.Sharpness.{Smooth};
 ghost use Rattle.sharpness_rules.specs.View.{sharpness_of};
 ghost use Rattle.child_slots.specs.HalfTable.{AreHalvesPut, AreHalvesBefore, AreAllHalves, IsHalfInRing, IsHalfRefusal, ring_listed};
 
@@ -65,7 +66,8 @@ fn put_halves(
 
 /// Returns a table of two places for each edge, each smooth. Reports `Memory` where memory runs out.
 pub fn half_table(alloc: Global, level: &Level) -> Result<Vec<Sharpness>, Memory>
-    ensures { IfOk result (λ halves. length halves.items ≡ 2 * length (edges_of level.now.level.polygons)) }
+    ensures size { IfOk result (λ halves. length halves.items ≡ 2 * length (edges_of level.now.level.polygons)) }
+    ensures smooth { IfOk result (λ halves. map sharpness_of halves.items ≡ replicate (2 * length (edges_of level.now.level.polygons)) Smooth) }
 {
     level.facts();
     let count = 2 * level.edges() as usize;
