@@ -10,6 +10,10 @@ text_in out at beyond = take at out ++ (if (nat_lt at (length out)) then [] else
 abbrev pub text_of : SliceSink → List ℕ
 text_of sink = text_in sink.out.now sink.at sink.beyond
 
+-- How much of the piece a call takes: what fits into the slice, or the whole piece if the slice is full.
+abbrev pub count_taken : SliceSink → List ℕ → ℕ
+count_taken sink piece = if (nat_lt sink.at (length sink.out.now)) then min (length piece) (length sink.out.now - sink.at) else length piece
+
 -- The slice begins with the text, or with as much of it as fits.
 abbrev pub IsStored : List ℕ → List ℕ → Type 0
 IsStored text out = take (length text) out ≡ take (length out) text

@@ -1,5 +1,5 @@
 ghost use Rattle.std.specs.Prelude.{◌≡◌, ℕ, ◌+◌, ◌-◌, ◌^◌, ◌<◌, ◌≤◌, [], ◌++◌, length, take, min, IsOk, IfOk, Some};
-ghost use Rattle.memory_streams.specs.Text.{text_of, IsStored, count_of};
+ghost use Rattle.memory_streams.specs.Text.{text_of, count_taken, IsStored, count_of};
 
 use crate::beyond::Beyond;
 use far_io::{Sink, WriteFailed};
@@ -71,6 +71,7 @@ impl<'a> Sink for SliceSink<'a> {
     /// Adds as much of the piece as fits into the slice. If the slice is full, it counts the whole piece.
     fn write(&mut self, piece: &[u8]) -> Result<usize, WriteFailed>
         ensures fine { IsOk result }
+        ensures fits { IfOk result (λ n. n ≡ count_taken self.old piece.now) }
         ensures count { IfOk result (λ n. n ≤ length piece.now) }
         ensures some { IfOk result (λ n. 0 < length piece.now → 0 < n) }
         ensures added { IfOk result (λ n. text_of self.new ≡ text_of self.old ++ take n piece.now) }
