@@ -109,7 +109,8 @@ impl MadeMask {
 // Returns whether the vertex, its edges and its faces are at most 16 together.
 fn has_few_terms(level: &Level, v: u32) -> bool
     requires { v < level.now.level.point_count }
-    ensures { result ≡ true → HasFewTerms level.now v }
+    ensures few { result ≡ true → HasFewTerms level.now v }
+    ensures found { HasFewTerms level.now v → result ≡ true }
 {
     level.facts();
     level.vertex_edges(v).len() < FEW
@@ -121,7 +122,8 @@ fn has_few_terms(level: &Level, v: u32) -> bool
 /// every vertex is plain.
 pub fn is_plain(level: &Level, v: u32, scheme: Scheme) -> bool
     requires { v < level.now.level.point_count }
-    ensures { result ≡ true → IsPlainAt level.now (scheme_of scheme) v }
+    ensures plain { result ≡ true → IsPlainAt level.now (scheme_of scheme) v }
+    ensures found { IsPlainAt level.now (scheme_of scheme) v → result ≡ true }
 {
     match scheme {
         Scheme::CatmullClark => has_few_terms(level, v) && is_smooth_at(level, v),

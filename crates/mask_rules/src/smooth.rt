@@ -1,6 +1,6 @@
 //! The mask of a vertex at which nothing is sharp. It needs no rings.
 
-ghost use Rattle.std.specs.Prelude.{◌≡◌, ◌<◌, true, false, IfErr, MatchResult};
+ghost use Rattle.std.specs.Prelude.{◌≡◌, ◌<◌, true, false, not, IfErr, MatchResult};
 ghost use Rattle.std.specs.List.{list_any};
 ghost use Rattle.subdiv_model.specs.Sharpness.{is_sharp};
 ghost use Rattle.mask_rules.specs.View.{seen_vertex};
@@ -17,7 +17,7 @@ use std::alloc::Global;
 // Returns whether no edge at the vertex is sharp.
 fn are_smooth(level: &Level, v: u32) -> bool
     requires { v < level.now.level.point_count }
-    ensures { result ≡ true → list_any is_sharp (ring_in level.now v) ≡ false }
+    ensures { list_any is_sharp (ring_in level.now v) ≡ not result }
 {
     level.facts();
     for e in level.vertex_edges(v) {
@@ -31,7 +31,8 @@ fn are_smooth(level: &Level, v: u32) -> bool
 /// Returns whether the vertex has edges, and neither it nor any of them is sharp.
 pub(crate) fn is_smooth_at(level: &Level, v: u32) -> bool
     requires { v < level.now.level.point_count }
-    ensures { result ≡ true → IsSmoothAt level.now v }
+    ensures smooth { result ≡ true → IsSmoothAt level.now v }
+    ensures found { IsSmoothAt level.now v → result ≡ true }
 {
     level.facts();
     !level.vertex_edges(v).is_empty()
