@@ -37,10 +37,11 @@ use Rattle.array_answers.specs.Composed.{ArePointsOf}
 use Rattle.array_answers.specs.declared.points.RefinedPoints.{RefinedPoints}
 
 -- their mesh is refused
-pub refused : (depth : ℕ) (arrays : MeshArrays) (mesh : ObjMesh) (fault : Fault) (found : FaultRecord) → IsMeshOf arrays mesh → IsFound fault (refusal_by (table_faults depth mesh) mesh) → IsRecordOf found fault
+pub refused : (depth : ℕ) (arrays : MeshArrays) (mesh : ObjMesh) (fault : Fault) (found : FaultRecord) → depth ≤ 10 → IsMeshOf arrays mesh
+    → IsFound fault (refusal_by (table_faults depth mesh) mesh) → IsRecordOf found fault
     → IsRefusal depth (table_faults depth (mesh_of_arrays arrays)) arrays found
-refused depth arrays mesh fault found good is recorded =
-    inr (inr (record { fault = fault; is = subst (λ m. IsFound fault (refusal_by (table_faults depth m) m)) good.same is; recorded = recorded }))
+refused depth arrays mesh fault found few good is recorded =
+    inr (inr (few, subst (IsMeshOf arrays) good.same good, record { fault = fault; is = subst (λ m. IsFound fault (refusal_by (table_faults depth m) m)) good.same is; recorded = recorded }))
 
 -- The points of a mesh whose table was composed.
 module _ (mesh : ObjMesh) (depth : ℕ) (composed : ComposedChannel) (points : List Point3) (is : IsComposedOf mesh depth composed) (made : IsTable composed.table) (said : map reader.point_of points ≡ mesh.points) where

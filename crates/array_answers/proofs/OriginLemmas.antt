@@ -13,10 +13,10 @@ use Rattle.fault_record.specs.declared.record.FaultRecord.{FaultRecord}
 use Rattle.array_answers.specs.Origins.{AreOriginsOfArrays, IsLevelsRefusal}
 
 -- the mesh is refused
-pub levels-refused : (depth : ℕ) (arrays : MeshArrays) (mesh : ObjMesh) (fault : Fault) (found : FaultRecord) → IsMeshOf arrays mesh → IsFound fault (refusal_of_mesh (Levels depth) mesh)
+pub levels-refused : (depth : ℕ) (arrays : MeshArrays) (mesh : ObjMesh) (fault : Fault) (found : FaultRecord) → depth ≤ 10 → IsMeshOf arrays mesh → IsFound fault (refusal_of_mesh (Levels depth) mesh)
     → IsRecordOf found fault → IsLevelsRefusal arrays depth found
-levels-refused depth arrays mesh fault found good is recorded =
-    inr (inr (record { fault = fault; is = subst (λ m. IsFound fault (refusal_of_mesh (Levels depth) m)) good.same is; recorded = recorded }))
+levels-refused depth arrays mesh fault found few good is recorded =
+    inr (inr (few, subst (IsMeshOf arrays) good.same good, record { fault = fault; is = subst (λ m. IsFound fault (refusal_of_mesh (Levels depth) m)) good.same is; recorded = recorded }))
 
 -- its levels have origins
 pub origins-found : (arrays : MeshArrays) (depth : ℕ) (mesh : ObjMesh) (origins : Origins) → depth ≤ 10 → IsMeshOf arrays mesh → AreOriginsOf mesh depth origins

@@ -1,9 +1,9 @@
 -- The record of a refused mesh in arrays.
-use Rattle.std.specs.Prelude.{ℕ, ◌≡◌, ◌<◌, ◌⊎◌, List}
+use Rattle.std.specs.Prelude.{ℕ, ◌≡◌, ◌<◌, ◌≤◌, ◌⊎◌, List}
 use Rattle.subdiv_model.specs.Fault.{Fault}
 use Rattle.subdiv_model.specs.ObjMesh.{ObjMesh}
 use Rattle.mesh_arrays.specs.Arrays.{mesh_of_arrays}
-use Rattle.mesh_arrays.specs.Faults.{IsArraysFault}
+use Rattle.mesh_arrays.specs.Faults.{IsArraysFault, IsMeshOf}
 use Rattle.mesh_arrays.specs.declared.arrays.MeshArrays.{MeshArrays}
 use Rattle.mesh_arrays.specs.declared.fault.ArraysFault.{ArraysFault}
 use Rattle.mesh_arrays.specs.declared.fault.ArraysFault.TheVariants as arrays
@@ -38,7 +38,9 @@ pub record IsRefusedBy (faults : List Fault) (mesh : ObjMesh) (found : FaultReco
   pub is : IsFound fault (refusal_by faults mesh)
   pub recorded : IsRecordOf found fault
 
--- the record of a fault of the depth, of the arrays or of their mesh, given the faults of its levels up to the depth
+-- the record of the first fault: of the depth, then of the arrays, then of their mesh, given the faults of its levels up to the depth
 abbrev pub IsRefusal : ℕ → List Fault → MeshArrays → FaultRecord → Type 0
 IsRefusal depth faults mesh found =
-    ((10 < depth) × (found ≡ bad_depth)) ⊎ (AreNoMesh mesh found ⊎ IsRefusedBy faults (mesh_of_arrays mesh) found)
+    ((10 < depth) × (found ≡ bad_depth))
+    ⊎ (((depth ≤ 10) × AreNoMesh mesh found)
+    ⊎ ((depth ≤ 10) × IsMeshOf mesh (mesh_of_arrays mesh) × IsRefusedBy faults (mesh_of_arrays mesh) found))

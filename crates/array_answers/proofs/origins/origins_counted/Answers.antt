@@ -7,4 +7,4 @@ returns-in-Ok-origins g c = origins-found c.args.arrays.now c.args.depth c.in-Ok
 
 pub returns : goal.returns
 returns g c =
-    levels-refused c.args.depth c.args.arrays.now c.in-Ok.mesh (fault_of c.in-Err-origins.fault) c.record_of.result c.in-Ok.ensures c.in-Err-origins.ensures.found c.record_of.ensures.numbers
+    levels-refused c.args.depth c.args.arrays.now c.in-Ok.mesh (fault_of c.in-Err-origins.fault) c.record_of.result c.requires.depth c.in-Ok.ensures c.in-Err-origins.ensures.found c.record_of.ensures.numbers

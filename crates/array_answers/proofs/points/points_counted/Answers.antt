@@ -5,7 +5,7 @@ use Rattle.array_answers.proofs.points.points_counted.Goals as goal
 
 pub returns-in-Err-compose : goal.returns-in-Err-compose
 returns-in-Err-compose g c =
-    refused c.args.depth c.args.arrays.now c.in-Ok.mesh (fault_of c.in-Err-compose.fault) _ c.in-Ok.ensures c.in-Err-compose.ensures.composed (search rules)
+    refused c.args.depth c.args.arrays.now c.in-Ok.mesh (fault_of c.in-Err-compose.fault) _ c.requires.depth c.in-Ok.ensures c.in-Err-compose.ensures.composed (search rules)
 
 pub evaluate-requires : goal.evaluate-requires
 evaluate-requires g c = can-be-evaluated c.in-Ok.mesh c.args.depth c.in-Ok-compose.composed c.points.result.now c.in-Ok-compose.ensures.composed c.facts-2.ensures c.points.ensures
