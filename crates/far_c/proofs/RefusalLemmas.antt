@@ -40,8 +40,8 @@ refused-status faults mesh found is = record-status found is.fault is.recorded
 
 pub refusal-status : (depth : ℕ) (faults : List Fault) (mesh : MeshArrays) (found : FaultRecord) → IsRefusal depth faults mesh found → 2 ≤ found.status
 refusal-status depth faults mesh found (inl deep) = same-status found bad_depth deep.1 (lit≤ tt)
-refusal-status depth faults mesh found (inr (inl none)) = no-mesh-status mesh found none
-refusal-status depth faults mesh found (inr (inr refused)) = refused-status faults _ found refused
+refusal-status depth faults mesh found (inr (inl none)) = no-mesh-status mesh found none.1
+refusal-status depth faults mesh found (inr (inr refused)) = refused-status faults _ found refused.2
 
 rows-status : (asked : Rows) (mesh : ObjMesh) (found : FaultRecord) → rows.AreRowsRefused asked mesh found → 2 ≤ found.status
 rows-status asked mesh found (inl refused) = refused-status (rows.row_faults asked mesh) mesh found refused
