@@ -120,7 +120,7 @@ module _ {K : Type 0} (sink : Ghosts K) (mesh : ObjMesh) (before : List (List (L
       AnswersLine sink mesh before number line old old k k (Err (answered.Obj number cause)) (n - n)
   bad-inside cause k n bad = record {
     answers = said (Some (cause_of cause)) (overflows depth mesh words) (is_go_line words) bad refl refl k k (Err (answered.Obj number cause)) (refl, refl);
-    posed = tt;
+    posed = refl;
     depth = refl;
     steps = nothing n (line_steps depth mesh words);
     later = stays k;
@@ -153,9 +153,10 @@ module _ {K : Type 0} (sink : Ghosts K) (mesh : ObjMesh) (before : List (List (L
       fits = is.fits;
     }
 
-    posed-after : (next : State) (r : Result (Unit {0}) FarFault) → OnOk r (next ≡ unmarked session) → IsPosedOn mesh before words (record { session = next; common = common; depth = depth }) r
-    posed-after next (Err fault) none = tt
-    posed-after next (Ok done) none =
+    posed-after : (next : State) (r : Result (Unit {0}) FarFault) → OnOk r (next ≡ unmarked session) → IfErr r (λ fault. fault ≡ answered.Write) →
+        IsPosedOn mesh before words old (record { session = next; common = common; depth = depth }) r
+    posed-after next (Err fault) none cut = subst (λ f. IsPosedOn mesh before words old (record { session = next; common = common; depth = depth }) (Err f)) (sym cut) tt
+    posed-after next (Ok done) none cut =
         subst (λ f. IsPosed mesh f (record { session = next; common = common; depth = depth })) (sym frame-cleared)
         (subst (λ s. IsPosed mesh (record { controls = frame.controls; moved = [] }) (record { session = s; common = common; depth = depth })) (sym none) posed-cleared)
 
@@ -169,7 +170,7 @@ module _ {K : Type 0} (sink : Ghosts K) (mesh : ObjMesh) (before : List (List (L
         let over : overflows depth mesh words ≡ false = ap (λ b. b && nat_lt number_bound (greatest_at depth mesh * channel.greatest_amount (model.numbers_of (moved_point mesh.common words)))) apart in
         record {
           answers = said None false true fine over go k k' r (written-answer sink k k' (frame_text depth mesh frame) r some-text whole fault);
-          posed = posed-after next r none;
+          posed = posed-after next r none fault;
           depth = refl;
           steps = nothing n (line_steps depth mesh words);
           later = writes.later;
@@ -248,7 +249,8 @@ module _ {K : Type 0} (sink : Ghosts K) (mesh : ObjMesh) (before : List (List (L
     move-inside next k (Err fault) first last moves = record {
       answers = said None true false fine (over-is true (lt-ltb number_bound (greatest_of session.table * greatest_amount (numbers_of target)) moves.above)) (not-go words move.keyword) k k (Err fault)
           (subst (λ f. Answers sink (answer_by None true false) k k (Err f)) (sym moves.fault) (refl, refl));
-      posed = tt;
+      posed = subst (λ f. IsPosedOn mesh before words old (record { session = next; common = common; depth = depth }) (Err f)) (sym moves.fault)
+          (ap (λ (s : State). record { session = s; common = common; depth = depth }) moves.unchanged);
       depth = refl;
       steps = omega (arith, moves.none);
       later = stays k;
@@ -271,10 +273,11 @@ module _ {K : Type 0} (sink : Ghosts K) (mesh : ObjMesh) (before : List (List (L
       (empty-inside sink mesh before number line session common depth within k n (caused None found.0) found.1)
 
   pub bad-line : (cause : tags.ObjCause) (k : K) (n : ℕ) → frame_cause count common line ≡ Some (cause_of cause) →
-      AnswersLine sink mesh before number line old old k k (Err (answered.Obj number cause)) (n - n)
-  bad-line cause k n bad =
-      subst (λ o. AnswersLine sink mesh before number line o o k k (Err (answered.Obj number cause)) (n - n)) view
-      (bad-inside sink mesh before number line session common depth within cause k n (caused (Some (cause_of cause)) bad))
+      (new : Posed) → new ≡ old → AnswersLine sink mesh before number line old new k k (Err (answered.Obj number cause)) (n - n)
+  bad-line cause k n bad new kept =
+      subst (λ p. AnswersLine sink mesh before number line old p k k (Err (answered.Obj number cause)) (n - n)) (sym kept)
+      (subst (λ o. AnswersLine sink mesh before number line o o k k (Err (answered.Obj number cause)) (n - n)) view
+      (bad-inside sink mesh before number line session common depth within cause k n (caused (Some (cause_of cause)) bad)))
 
   pub go-line : (next : State) (k k' : K) (r : Result (Unit {0}) FarFault) (n : ℕ) (read : FrameLine) → IsFrameLine count common line read → read ≡ Go →
       Writes sink k k' (marked_text common session) r → OnOk r (next ≡ unmarked session) → IfErr r (λ fault. fault ≡ answered.Write) →

@@ -30,15 +30,16 @@ Answers sink answer k k' (Err answered.Write) =
     (answer.refusal ≡ None) × (answer.text ≢ []) × AddedPrefix (sink.held k) (sink.held k') answer.text × Rose (sink.faults k) (sink.faults k')
 Answers sink answer k k' (Err fault) = (answer.refusal ≡ Some (fault_of fault)) × (k' ≡ k)
 
--- the mesh after one more line, which was not refused
-abbrev pub IsPosedOn : ObjMesh → List (List (List ℕ)) → List (List ℕ) → Posed → Result (Unit {0}) FarFault → Type 0
-IsPosedOn mesh before words posed (Ok _) = IsPosedAfter mesh (before ++ words ∷ []) posed
-IsPosedOn mesh before words posed (Err _) = Unit {0}
+-- The mesh after one more line. After Write nothing is said; after another fault, which is the refusal, the mesh is as it was.
+abbrev pub IsPosedOn : ObjMesh → List (List (List ℕ)) → List (List ℕ) → Posed → Posed → Result (Unit {0}) FarFault → Type 0
+IsPosedOn mesh before words old new (Ok _) = IsPosedAfter mesh (before ++ words ∷ []) new
+IsPosedOn mesh before words old new (Err answered.Write) = Unit {0}
+IsPosedOn mesh before words old new (Err fault) = new ≡ old
 
 -- The answer to a line after other lines. The number of the line is counted from 1.
 pub record AnswersLine {K : Type 0} (sink : Ghosts K) (mesh : ObjMesh) (before : List (List (List ℕ))) (number : ℕ) (line : List ℕ) (old new : Posed) (k k' : K) (result : Result (Unit {0}) FarFault) (taken : ℕ) : Type 0 where
   pub answers : Answers sink (frame_answer old.depth mesh before number line) k k' result
-  pub posed : IsPosedOn mesh before (line_words line) new result
+  pub posed : IsPosedOn mesh before (line_words line) old new result
   pub depth : new.depth ≡ old.depth
   pub steps : taken ≤ line_steps old.depth mesh (line_words line)
   pub later : sink.faults k ≤ sink.faults k'

@@ -97,7 +97,7 @@ impl PosedMesh {
     ///   2^126 - 1;
     /// - `Write`: the sink failed; it holds a prefix of the text.
     ///
-    /// After `Obj` and `Overflow` the sink is as it was.
+    /// After `Obj` and `Overflow` the sink and the posed mesh are as they were.
     pub fn answer_line<K: Sink, L: Ledger>(
         &mut self,
         number: u32,

@@ -1,4 +1,4 @@
-use Rattle.std.proofs.Common.{sym, subst}
+use Rattle.std.proofs.Common.{sym, subst, rules}
 use Rattle.frame_answers.specs.Kept.{CanStandOver}
 use Rattle.frame_answers.proofs.AnswerLemmas.{empty-line, bad-line, go-line, move-line}
 use Rattle.frame_answers.proofs.posed.PosedMesh.answer_line.Goals as goal
@@ -27,3 +27,4 @@ pub returns-in-Err-clause-answers : goal.returns-in-Err-clause-answers
 returns-in-Err-clause-answers g c mesh before is =
     bad-line g.K.Sink mesh before c.args.number c.args.line.now c.self.inside.session c.self.inside.common c.self.inside.depth c.args.self.now c.self.view_is is
     c.controls.result c.controls.ensures c.in-Err.cause c.args.sink.now c.args.steps.now c.in-Err.ensures
+    _ (search rules)
