@@ -1,6 +1,6 @@
 //! The next sparse level.
 
-ghost use Rattle.std.specs.Prelude.{◌≡◌, ◌+◌, ◌<◌, ◌≤◌, length, map, IfOk, MatchResult};
+ghost use Rattle.std.specs.Prelude.{◌≡◌, ◌+◌, ◌^◌, ◌<◌, ◌≤◌, length, map, IfOk, MatchResult};
 ghost use Rattle.subdiv_model.specs.Polygons.{is_among};
 ghost use Rattle.feature_select.specs.Rule.{AnswersTest};
 ghost use Rattle.sharpness_rules.specs.View.{sharpness_of};
@@ -102,6 +102,7 @@ pub fn refine_selected<T: FaceTest, F: Fn(&FaceFacts) -> bool, L: Ledger>(
     ensures sparse { (of : SparseOf (T.meets chosen.now.1) sparse.now) → IfOk result (IsNextOf of) }
     ensures steps { steps.new ≤ steps.old + length (places_for (T.meets chosen.now.1) sparse.now) }
     ensures later { steps.old ≤ steps.new }
+    ensures early { 2 ^ 22 < length (places_for (T.meets chosen.now.1) sparse.now) → steps.new ≡ steps.old }
 {
     sparse.level().facts();
     let selected = select_faces(alloc, sparse, chosen)?;
