@@ -136,7 +136,7 @@ values-on base scheme c e controls numbers k j h =
     to-same c e (refined_values base scheme own (k + j)) (refined_values (refined_level base k) scheme given j)
     (refined-over c e base scheme own given k j start)
 
--- Values over their own denominators.
+-- Values in any terms.
 
 whole-den : (n : ℕ) (z : ℤ) → pos (n * 1) *ℤ z ≡ z *ℤ pos n
 whole-den n z = let same : n * 1 ≡ n = omega arith in ap (λ k. pos k *ℤ z) same ∙ *ℤ_comm (pos n) z

@@ -47,7 +47,7 @@ module _ {X : Type 0} (names keep : X → Bool) (value : X → Sharpness) (s : S
       here true false kept named after from = rw (kept, named) after
       here true true kept named after from = rw (kept, named) (from (same x named))
 
-  -- the last is s where a tag names the same
+  -- the last is s where a tag of the list names the item
   found : (d : Sharpness) (xs : List X) → list_any (λ x. keep x && names x) xs ≡ true → last-tag d xs ≡ s
   found d [] h = absurd (false≢true h)
   found d (x ∷ xs) h = here (keep x) (names x) refl refl (λ more. found d xs more) (λ (yes : value x ≡ s). stays (value x) yes xs)
@@ -60,7 +60,7 @@ module _ {X : Type 0} (names keep : X → Bool) (value : X → Sharpness) (s : S
           let more : list_any (λ y. keep y && names y) xs ≡ true = grind (arith, nat_tests) in rw (kept, named) (after more)
       here true true kept named after from = rw (kept, named) (from (same x named))
 
-  -- the last is s where something in the list has s, names itself, and is kept where s is sharp
+  -- the last is s where an item of the list has s, names itself, and is kept if s is sharp
   pub last-own : (xs : List X) (i : ℕ) (d : X) → i < length xs → names (get_or xs i d) ≡ true → value (get_or xs i d) ≡ s
       → (is_sharp s ≡ true → keep (get_or xs i d) ≡ true) → last-tag Smooth xs ≡ s
   last-own xs i d inside named own kept = here s refl
@@ -75,7 +75,7 @@ module _ {X : Type 0} (names keep : X → Bool) (value : X → Sharpness) (s : S
 
 -- The items of a list, read by number.
 
--- where one thing at most passes, nothing before it does
+-- where at most one item passes, no item before it does
 only-one : {X : Type 0} (test : X → Bool) (xs : List X) (k i : ℕ) (d : X) → count_by test xs ≤ 1 → k < i → i < length xs
     → test (get_or xs i d) ≡ true → test (get_or xs k d) ≡ false
 only-one test [] k i d few before inside at = absurd (omega arith)

@@ -4,7 +4,7 @@ use Rattle.subdiv_model.specs.Sharpness.{Semi, Infinite, Normal}
 use Rattle.subdiv_model.specs.Boundary.{EdgeOnly}
 use Rattle.subdiv_model.specs.ObjMesh.{ObjMesh}
 
--- two quads side by side: the edge between them has sharpness 5/2, vertex 0 is a corner, and the second face is a hole
+-- two quads that share an edge: this edge has sharpness 5/2, vertex 0 is a corner, and the second face is a hole
 abbrev pub tagged_quads : ObjMesh
 tagged_quads = record {
   points =

@@ -94,7 +94,7 @@ pub record Columns : Type 0 where
   pub above_y : All HasDenominator ys
   pub above_z : All HasDenominator zs
 
--- both have equal coordinates
+-- the points of both have equal coordinates, one by one
 pub record AreSameColumns (first second : Columns) : Type 0 where
   pub x : AreSameValues first.xs second.xs
   pub y : AreSameValues first.ys second.ys
@@ -118,7 +118,7 @@ mesh_points scheme mesh k = refined_points (base_level mesh) scheme mesh.common 
 abbrev pub mesh_coordinates : (ℤ × ℤ × ℤ → ℤ) → Scheme → ObjMesh → ℕ → List Value
 mesh_coordinates axis scheme mesh k = refined_coordinates (base_level mesh) scheme mesh.common (map axis mesh.points) k
 
--- the coordinates of the point are these whole numbers over a common denominator
+-- the coordinates of the point have the values of these whole numbers over a common denominator
 pub record IsPointOver (common : ℕ) (point : Point) (numbers : ℤ × ℤ × ℤ) : Type 0 where
   pub x : IsSameValue point.0 (record { num = numbers.0; den = common })
   pub y : IsSameValue point.1 (record { num = numbers.1; den = common })
@@ -128,8 +128,8 @@ pub record IsPointOver (common : ℕ) (point : Point) (numbers : ℤ × ℤ × �
 abbrev pub text_after : Scheme → Bool → ObjMesh → ℕ → List ℕ
 text_after scheme holes mesh k = mesh_text None holes (mesh_level mesh k) (mesh_points scheme mesh k)
 
--- The first mesh has no fault. The second has the tags of level k of the first, and its points have the values of the points
--- there. Its common denominator is its own.
+-- The first mesh is a manifold with well-formed tags. The second has the tags of level k of the first, and its points have the
+-- values of the points there. Each mesh has its own common denominator, of at least 1.
 pub record IsContinuation (scheme : Scheme) (k : ℕ) (first second : ObjMesh) : Type 0 where
   pub manifold : IsManifoldMesh first
   pub proper : HasProperTags first

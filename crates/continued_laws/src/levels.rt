@@ -17,8 +17,8 @@ pub fn tags_give_the_level_again()
 
 /// Refining k steps and then j steps is refining k + j steps. Each level of a mesh without fault has no fault.
 ///
-/// Each level of a manifold whose boundary is infinitely sharp is such a manifold. So is each level of a mesh with well-formed
-/// tags.
+/// Each level of a well-formed manifold whose boundary is infinitely sharp is again one. So is each level of a manifold mesh with
+/// well-formed tags.
 pub fn steps_go_on()
     ensures levels { (level : Level) (k j : ℕ) → refined_level (refined_level level k) j ≡ refined_level level (k + j) }
     ensures no_fault { (mesh : ObjMesh) (k : ℕ) → IsTrue (has_faces_over_points mesh) → first_mesh_fault (length mesh.points) mesh.faces ≡ None → IsFaultless (mesh_level mesh k) }

@@ -10,8 +10,8 @@ ghost use Rattle.mask_laws.specs.Laws.{IsManifoldMesh, HasProperTags, mesh_level
 ghost use Rattle.continued_laws.specs.Laws.{ContinuedMesh, IsContinuation, mesh_points, point_lines, text_after};
 ghost use Rattle.continued_laws.specs.Examples.{tagged_quads, quads_after_a_step};
 
-/// A mesh with the tags and points of level k of a mesh without fault refines like it. Its level j is level k + j of that mesh,
-/// with the same tags and as many faces. Its `v` lines and its text are the same in lowest terms.
+/// Let a second mesh have the tags and points of level k of a first. Then its level j is level k + j of the first, with the same
+/// tags and as many faces. The `v` lines and the texts of both levels are equal, in lowest terms.
 pub fn meshes_go_on()
     ensures levels { (going : ContinuedMesh) (j : ℕ) → mesh_level going.second j ≡ mesh_level going.first (going.steps + j) }
     ensures tags { (going : ContinuedMesh) (j : ℕ) → tags_text (mesh_level going.second j) ≡ tags_text (mesh_level going.first (going.steps + j)) }
@@ -20,7 +20,7 @@ pub fn meshes_go_on()
     ensures text { (going : ContinuedMesh) (holes : Bool) (j : ℕ) → text_after going.scheme holes going.second j ≡ text_after going.scheme holes going.first (going.steps + j) }
 {}
 
-/// A mesh with the tags and points of a level of a mesh without fault has no fault, and its tags are well formed.
+/// A mesh with the tags and points of a level of a manifold mesh has no fault and is a manifold. Its tags are well formed.
 pub fn continuations_have_no_fault()
     ensures fault { (scheme : Scheme) (k : ℕ) (first second : ObjMesh) → IsContinuation scheme k first second
         → first_mesh_fault (length second.points) second.faces ≡ None }
@@ -28,8 +28,8 @@ pub fn continuations_have_no_fault()
     ensures tags { (scheme : Scheme) (k : ℕ) (first second : ObjMesh) → IsContinuation scheme k first second → HasProperTags second }
 {}
 
-/// An example: two quads side by side with a crease, a corner and a hole. Their points after one step, over 8, and the tags of
-/// level 1 make a mesh that continues from there.
+/// An example: two quads that share a crease, with a corner and a hole. Their points after one step, over 8, and the tags of level
+/// 1 make a mesh that continues from there.
 pub fn quads_go_on()
     ensures { IsContinuation CatmullClark 1 tagged_quads quads_after_a_step }
 {}

@@ -9,8 +9,8 @@ ghost use Rattle.subdiv_model.specs.Refined.{child_values};
 ghost use Rattle.mask_laws.specs.Laws.{IsManifoldWithSharpBoundary};
 ghost use Rattle.continued_laws.specs.Laws.{AreSameValues, HasDenominator, Coordinates, Continuation, coordinates_after, continued, Columns, AreSameColumns, points_of, point_lines};
 
-/// Equal values have equal children, whatever their terms. If control numbers have the values after k steps, j steps from them
-/// give the values after k + j steps.
+/// Equal values have equal children, whatever their terms. If numbers have the values after k steps, refining them j steps gives
+/// the values after k + j steps.
 pub fn values_go_on()
     ensures child { (level : Level) (scheme : Scheme) (xs ys : List Value) → AreSameValues xs ys
         → AreSameValues (child_values level scheme xs) (child_values level scheme ys) }
@@ -18,8 +18,8 @@ pub fn values_go_on()
         AreSameValues (coordinates_after going.first (going.steps + j)) (coordinates_after (continued going) j) }
 {}
 
-/// The refined coordinates of a manifold whose boundary is infinitely sharp have denominators of at least 1, if the control
-/// numbers have.
+/// The refined coordinates of a manifold whose boundary is infinitely sharp have denominators of at least 1. The law asks that the
+/// common denominator of the control numbers is at least 1.
 pub fn refined_coordinates_have_denominators()
     ensures { (given : Coordinates) (k : ℕ) → IsManifoldWithSharpBoundary given.level → 0 < given.common
         → All HasDenominator (coordinates_after given k) }
