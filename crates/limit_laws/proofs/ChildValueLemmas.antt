@@ -22,7 +22,7 @@ use Rattle.level_laws.proofs.HalfLemmas.{point_of, is_edge}
 abbrev pub listed : Level → ℕ × ℕ → ℕ × ℕ
 listed level e = get_or (edges_of level.polygons) (edge_number level.polygons e) (0, 0)
 
--- names the same edge
+-- the edge as it is listed is the same edge
 pub listed-same : (level : Level) (e : ℕ × ℕ) → is_edge level e ≡ true → same_edge e (listed level e) ≡ true
 listed-same level e named = passes_at_first (same_edge e) (edges_of level.polygons) (0, 0) (position-within e (edges_of level.polygons) named)
 
@@ -89,7 +89,7 @@ module _ (level : Level) (scheme : Scheme) where
       → point_value (child_values level scheme xs) v ≡ mask_value (source_value level xs) (vertex_mask level scheme v)
   value-old xs v below = value-at xs v ∙ ap (mask_value (source_value level xs)) (mask-old v (ltb-true v level.point_count below))
 
-  -- the new point of a face that of the face's mask
+  -- the new point of a face has the value of the mask of the face
   pub value-face : (xs : List Value) (f : ℕ) → f < length level.polygons
       → point_value (child_values level scheme xs) (level.point_count + f) ≡ mask_value (source_value level xs) (face_mask level f)
   value-face xs f below = value-at xs (level.point_count + f) ∙ ap (mask_value (source_value level xs)) (mask-face f below)
@@ -99,8 +99,8 @@ module _ (level : Level) (scheme : Scheme) where
       → point_value (child_values level scheme xs) (point_of level e) ≡ mask_value (source_value level xs) (edge_mask level scheme (listed level e))
   value-new xs e named = value-at xs (point_of level e) ∙ ap (mask_value (source_value level xs)) (mask-new e named)
 
--- Linear refinement in whole numbers: over twice the denominator an old point has twice its number, and the new point of
--- an edge has the sum of those of its ends.
+-- Linear refinement in whole numbers, over twice the denominator. An old point has twice its number, and the new point of an edge
+-- has the sum of the numbers of its ends.
 abbrev pub next_number : Level → (ℕ → ℤ) → ℕ → ℤ
 next_number level number q =
     if nat_lt q level.point_count then pos 2 *ℤ number q

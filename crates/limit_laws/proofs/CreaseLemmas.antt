@@ -42,12 +42,12 @@ second-end e = grind (arith, nat_tests)
 -- Edges of the next level that are smooth.
 
 module _ (level : Level) (t : ℕ × ℕ) where
-  -- each half that is this edge is smooth
+  -- each half of an edge that is the edge t is smooth
   abbrev HasSmoothHalves : Type 0
   HasSmoothHalves = (e : ℕ × ℕ) (v : ℕ) → is_inside level.point_count e ≡ true → has_end v e ≡ true
       → same_edge t (v, point_of level e) ≡ true → half_sharpness level e v ≡ Smooth
 
-  -- then the halves say of this edge that it is smooth
+  -- the halves give the edge t the sharpness smooth, if each half that is t is smooth
   among-smooth : HasSmoothHalves → (some : List (ℕ × ℕ)) → list_all (is_inside level.point_count) some ≡ true
       → sharpness_among (halves_from level some) t ≡ Smooth
   among-smooth each [] all = refl
@@ -59,7 +59,7 @@ module _ (level : Level) (t : ℕ × ℕ) where
       (λ _. cond_both (same_edge t (e.1, point_of level e)) (half_sharpness level e e.1) (sharpness_among (halves_from level some) t) (λ s. s ≡ Smooth)
       (λ is. each e e.1 parts.0 (second-end e) is) (λ _. behind))
 
-  -- the edge of the child level is smooth
+  -- the edge t of the next level is smooth, if each half that is t is smooth
   child-smooth : IsSharpAtBoundary level → HasSmoothHalves → edge_sharpness_of (child_level level) t ≡ Smooth
   child-smooth is each =
       let inside = first_named-all (is_inside level.point_count) (all_sides level.polygons) (sides-inside level.point_count level.polygons is.over) in
@@ -77,7 +77,7 @@ end-inside points v e h k = grind (arith, nat_tests)
 other-half : (p n v : ℕ) (t : ℕ × ℕ) → has_end p t ≡ true → same_edge t (v, n) ≡ true → nat_eq p v ≡ false → nat_eq p n ≡ true
 other-half p n v t at same other = grind (arith, nat_tests)
 
--- an edge names itself the other way about
+-- an edge names itself in the other direction
 turned : (t : ℕ × ℕ) (a b : ℕ) → same_edge t (a, b) ≡ true → same_edge t (b, a) ≡ true
 turned t a b h = grind (arith, nat_tests)
 
@@ -120,7 +120,7 @@ module _ (level : Level) (is : IsSharpAtBoundary level) where
           let second : nat_eq v e.1 ≡ true = end-cases v e (end-kept v s e (same_edge-sym s e ∙ alike) ends) h in
           or_right _ _ (ap (λ n. same_edge t (point_of level e, n)) (sym (eqb-true v e.1 second)) ∙ to-end)
 
-  -- a boundary edge is one in the other direction too
+  -- a boundary edge is one in both directions
   turned-boundary : (a b : ℕ) → is_boundary (child_level level).polygons (a, b) ≡ true
       → is_boundary (child_level level).polygons (b, a) ≡ true
   turned-boundary a b h =

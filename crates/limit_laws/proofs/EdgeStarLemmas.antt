@@ -31,7 +31,7 @@ kept-both keep test (x ∷ xs) h =
     cond_both (keep x) (x ∷ filter keep xs) (filter keep xs) (λ l. list_all (λ y. keep y && test y) l ≡ true)
     (λ yes. and_from _ _ (and_from _ _ yes parts.0) (kept-both keep test xs parts.1)) (λ _. kept-both keep test xs parts.1)
 
--- one at most and one at least
+-- a number that is at most 1 and at least 1 is 1
 once-from : (n : ℕ) → n ≤ 1 → 1 ≤ n → nat_eq n 1 ≡ true
 once-from n h k = grind (arith, nat_tests)
 
@@ -152,7 +152,7 @@ module _ (level : Level) (over : is_over level.point_count level.polygons ≡ tr
           ap (λ (n : ℕ). list_any (same_edge (n, p)) (child_edges level)) same
           ∙ any-alike (p, b.1) (b.1, p) (child_edges level) turned (named-side (p, b.1) (omega (arith, some, times)))
 
-  -- once
+  -- the half at v of an edge is listed once among the edges of the next level at v
   listed-once : (b : ℕ × ℕ) → (has_end v b && is_side b) ≡ true → is_once (λ a. same_edge a (v, point_of level b)) (edges_at (child_level level) v) ≡ true
   listed-once b h =
       let parts = and_parts (has_end v b) (is_side b) h in

@@ -194,7 +194,7 @@ module _ (v : ℕ) (edges : List (ℕ × ℕ)) where
       alike : (s e : ℕ × ℕ) → same_edge s e ≡ true → has_end v s ≡ has_end v e
       alike s e same = grind (arith, nat_tests)
 
--- The faces and the edges at a point, where all polygons are such quads.
+-- The faces and the edges at a point, where all polygons are plain quads.
 
 module _ (polygons : List Polygon) (v : ℕ) (plain : list_all (is_plain_quad (edges_of polygons)) polygons ≡ true) where
   abbrev numbered : List (ℕ × Polygon)

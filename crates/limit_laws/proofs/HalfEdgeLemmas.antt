@@ -1,5 +1,4 @@
--- A half of an edge has as many faces as the edge, so that the boundary edges of the next level are the halves of
--- boundary edges.
+-- A half of an edge has as many faces as the edge. So the boundary edges of the next level are the halves of boundary edges.
 use Rattle.std.proofs.Common.{◌≡◌, ℕ, ◌+◌, Bool, true, false, nat_eq, nat_lt, List, length, arith, refl, ap, sym, ◌∙◌}
 use Rattle.std.specs.List.{list_any, list_all}
 use Rattle.std.proofs.lemmas.Bool.Decides.{nat_tests}
@@ -67,7 +66,7 @@ module _ (points : ℕ) (polygons : List Polygon) (over : is_over points polygon
   faces-both list plain e apart = faces-count e 0 list plain ∙ edge-count e (all_sides list) apart
 
   module _ (e : ℕ × ℕ) (is : IsEdgeOfOne points polygons e) where
-    -- the edge is listed the other way about too
+    -- the edge is listed, named in the other direction
     back-is-named : is_named points polygons (e.1, e.0) ≡ true
     back-is-named = any-alike e (e.1, e.0) (edges_of polygons) (back-edge e) is.named
 

@@ -74,7 +74,7 @@ module _ (level : Level) (well : IsManifoldWithSharpBoundary level) where
     sharp_boundary = (sharp-levels level k sharp-manifold).sharp;
   }
 
-  -- values over denominators above 0 are refined to such
+  -- values over denominators above 0 are refined to values over denominators above 0
   pub refined-positive : (values : List Value) (k : ℕ) → ArePositive values → ArePositive (refined_values level CatmullClark values k)
   refined-positive values zero each = each
   refined-positive values (suc k) each =

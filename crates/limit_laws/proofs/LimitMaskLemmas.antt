@@ -1,4 +1,4 @@
--- The limit mask of a point and its mask in the next level, by its kind.
+-- The limit mask of a point and its mask in the next level: of corners, of smooth points and of points of a crease.
 use Rattle.std.proofs.Common.{◌≡◌, ℕ, ◌+◌, ◌≤◌, Bool, true, false, nat_eq, nat_lt, pos, ◌*ℤ◌, List, [], ◌∷◌, length, map, get_or, Ok, arith, refl, ap, sym, ◌∙◌}
 use Rattle.std.specs.List.{list_all, count_by}
 use Rattle.std.proofs.lemmas.Bool.{ltb-true}
@@ -44,7 +44,7 @@ ring-infinite method all (s ∷ ring) =
       ring-infinite method all ring,
     )
 
--- what makes a corner for good does so in the next level
+-- what makes a point a corner at every later level holds in the next level
 corner-next : (method : Method) (vertex : Sharpness) (ring : List Sharpness) → StaysCorner vertex ring → StaysCorner (uniform_child vertex) (child_ring method ring)
 corner-next method vertex ring (itself e) = itself (ap uniform_child e)
 corner-next method vertex ring (bare e) = bare (length-map ring (half_child method ring) ∙ e)
@@ -143,7 +143,7 @@ module _ (level : Level) (v : ℕ) where
         (plain-first is (CreaseRule two.i two.j) two-placed) (plain-second is (CreaseRule two.i two.j) two-placed) (same-crease two.i two.j)
         ∙ ap (λ n. crease_mask v n (get_or (ends_at level v) two.j 0)) first-at ∙ ap (λ n. crease_mask v first_end n) second-at
 
--- The kind of the point in the next level.
+-- The lasting rule of the point in the next level.
 
 same-number : (m n : ℕ) → pos m *ℤ pos 1 ≡ pos n *ℤ pos 1 → m ≡ n
 same-number m n h = let e : pos m ≡ pos n = sym (times-one (pos m)) ∙ h ∙ times-one (pos n) in omega (arith, ints, e)

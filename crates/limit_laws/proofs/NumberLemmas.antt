@@ -26,7 +26,7 @@ same-number c x y n positive h k =
     (ap (λ z. pos c *ℤ z) (*ℤ_comm x.num (pos y.den)) ∙ pos-swap c y.den x.num ∙ ap (λ z. pos y.den *ℤ z) h ∙ pos-swap y.den x.den n
     ∙ ap (λ z. pos x.den *ℤ z) (sym k) ∙ pos-swap x.den c y.num ∙ ap (λ z. pos c *ℤ z) (*ℤ_comm (pos x.den) y.num))
 
--- once a number is itself
+-- one times a number is the number
 pub one-times : (x : ℤ) → pos 1 *ℤ x ≡ x
 one-times x = *ℤ_comm (pos 1) x ∙ times-one x
 
@@ -85,7 +85,7 @@ module _ (m : ℕ) (value : SourcePoint → Value) (number : ℕ → ℤ) where
         proper = mask-proper terms 1 (omega arith) (h.proper, tt);
       }
 
-  -- once each of two points
+  -- the sum of the numbers of two points, each times one
   ends-sum : (a b : ℕ) → pos 1 *ℤ number a +ℤ (pos 1 *ℤ number b +ℤ pos 0) ≡ number a +ℤ number b
   ends-sum a b =
       ap (λ z. pos 1 *ℤ number a +ℤ z) (+ℤ_idr (pos 1 *ℤ number b) ∙ one-times (number b)) ∙ ap (λ z. z +ℤ number b) (one-times (number a))

@@ -43,7 +43,7 @@ module _ {X : Type 0} (test : X → Bool) (d : X) where
   skipped : (n : ℕ) (x : X) (xs : List X) → test x ≡ false → places_from n test (x ∷ xs) ≡ places_from (n + 1) test xs
   skipped n x xs e = cond-false (test x) (n ∷ places_from (n + 1) test xs) (places_from (n + 1) test xs) e
 
-  -- where nothing passes there is no place
+  -- if no item passes, there is no place
   none-placed : (n : ℕ) (xs : List X) → count_by test xs ≡ 0 → places_from n test xs ≡ []
   none-placed n [] h = refl
   none-placed n (x ∷ xs) h = here (test x) refl (λ k. none-placed (n + 1) xs k)
@@ -52,14 +52,14 @@ module _ {X : Type 0} (test : X → Bool) (d : X) where
       here true e behind = absurd (omega (arith, count-cons test x xs, one-yes (test x) e))
       here false e behind = rw e (behind (omega (arith, count-cons test x xs)))
 
-  -- the one place where something passes, counted from n
+  -- the one place where an item passes, counted from n
   pub record HasOnePlace (n : ℕ) (xs : List X) : Type 0 where
     pub i : ℕ
     pub within : i < length xs
     pub is : places_from n test xs ≡ (n + i) ∷ []
     pub passes : test (get_or xs i d) ≡ true
 
-  -- where one passes it has a place
+  -- if one item passes, there is one place
   pub one-placed : (n : ℕ) (xs : List X) → count_by test xs ≡ 1 → HasOnePlace n xs
   one-placed n [] h = absurd (omega arith)
   one-placed n (x ∷ xs) h = here (test x) refl (λ k. one-placed (n + 1) xs k)
@@ -79,7 +79,7 @@ module _ {X : Type 0} (test : X → Bool) (d : X) where
             passes = found.passes;
           }
 
-  -- the two places where something passes, counted from n
+  -- the two places where items pass, counted from n
   pub record HasTwoPlaces (n : ℕ) (xs : List X) : Type 0 where
     pub i : ℕ
     pub j : ℕ
@@ -89,7 +89,7 @@ module _ {X : Type 0} (test : X → Bool) (d : X) where
     pub first : test (get_or xs i d) ≡ true
     pub second : test (get_or xs j d) ≡ true
 
-  -- where two pass they have two
+  -- if two items pass, there are two places
   pub two-placed : (n : ℕ) (xs : List X) → count_by test xs ≡ 2 → HasTwoPlaces n xs
   two-placed n [] h = absurd (omega arith)
   two-placed n (x ∷ xs) h = here (test x) refl (λ k. two-placed (n + 1) xs k)

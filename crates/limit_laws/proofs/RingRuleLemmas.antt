@@ -32,7 +32,7 @@ three-corner (a ∷ []) h = absurd (omega arith)
 three-corner (a ∷ (b ∷ [])) h = absurd (omega arith)
 three-corner (a ∷ (b ∷ (c ∷ l))) h = refl
 
--- what the edges say: three or more make a corner, two a crease, none is smooth
+-- the rule by the number of sharp edges: smooth for none, dart for one, crease for two, corner for more
 data Places (l : List ℕ) : Type 0 where
   no_place : rule_of_sharp_edges l ≡ SmoothRule → length l ≡ 0 → Places l
   one_place : rule_of_sharp_edges l ≡ DartRule → Places l
@@ -45,7 +45,7 @@ places-of (a ∷ []) = one_place refl
 places-of (a ∷ (b ∷ [])) = two_places a b refl refl
 places-of (a ∷ (b ∷ (c ∷ l))) = more_places refl (omega arith)
 
--- Where a point is a corner for good.
+-- Where a point is a corner at every later level.
 
 -- the point is infinitely sharp, or has no edge, or three infinitely sharp ones
 pub data StaysCorner (vertex : Sharpness) (ring : List Sharpness) : Type 0 where
@@ -119,7 +119,7 @@ plain-stays (Smooth ∷ ring) h = plain-stays ring h
 plain-stays (Semi num den ∷ ring) h = absurd (false≢true (sym h))
 plain-stays (Infinite ∷ ring) h = plain-stays ring h
 
--- The kinds of points that have a limit mask.
+-- The three rules that give a limit mask.
 
 pub data HasLimitKind (vertex : Sharpness) (ring : List Sharpness) : Type 0 where
   corner : StaysCorner vertex ring → HasLimitKind vertex ring

@@ -102,7 +102,7 @@ module _ (level : Level) (is : IsSharpAtBoundary level) (p a b : ℕ) (crease : 
   abbrev along : ℕ × ℕ → Bool
   along e = same_edge e (p, a) || same_edge e (p, b)
 
-  -- both are infinitely sharp
+  -- a boundary edge at p is infinitely sharp, named in either direction
   named-infinite : (c : ℕ) → is_boundary level.polygons (p, c) ≡ true → (e : ℕ × ℕ) → same_edge e (p, c) ≡ true
       → edge_sharpness_of level e ≡ Infinite
   named-infinite c on_boundary e same =

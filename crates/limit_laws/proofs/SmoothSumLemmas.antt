@@ -49,7 +49,7 @@ sum-constant n (x ∷ xs) = ap (λ i. n +ℤ i) (sum-constant n xs) ∙ turned n
     turned : (a b : ℤ) → a +ℤ b ≡ b +ℤ a
     turned a b = omega (arith, ints)
 
--- one for each edge
+-- a sum over the edges, of the number of v, of the other end and of the faces beside the edge, in three sums
 pub edges-sum : (v : ℕ) (g F : ℕ → ℤ) (beside : ℕ × ℕ → List ℕ) (edges : List (ℕ × ℕ))
     → sum_ℤ (λ e. (g v +ℤ g (other_end v e)) +ℤ sum_ℤ F (beside e)) edges
     ≡ (pos (length edges) *ℤ g v +ℤ sum_ℤ (λ e. g (other_end v e)) edges) +ℤ sum_ℤ (λ e. sum_ℤ F (beside e)) edges

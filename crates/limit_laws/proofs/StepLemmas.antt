@@ -148,7 +148,7 @@ module _ (level : Level) (is : IsSharpAtBoundary level) (means : has_means level
         own = sym (same-pair e (listed level e) more.1);
       }
 
-  -- the value of the new point of such an edge
+  -- the value of the new point of an edge at the point
   edge-value : (e : ℕ × ℕ) → IsAtPoint e → next (OfPoint (point_of level e)) ≡ mask_value value (edge_mask level CatmullClark e)
   edge-value e at = value-new level CatmullClark values e at.named ∙ ap (λ (s : ℕ × ℕ). mask_value value (edge_mask level CatmullClark s)) at.own
 

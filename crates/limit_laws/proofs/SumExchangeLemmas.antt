@@ -71,7 +71,7 @@ sum-kept keep f (x ∷ xs) =
     (λ yes. ap (λ n. f x +ℤ n) behind ∙ ap (λ n. n +ℤ rest) (sym (number-yes (keep x) (f x) yes)))
     (λ no. behind ∙ sym (+ℤ_idl rest) ∙ ap (λ n. n +ℤ rest) (sym (number-no (keep x) (f x) no)))
 
--- one number at each item that passes
+-- the sum of one number for each item that passes
 pub sum-count : {X : Type 0} (test : X → Bool) (n : ℤ) (xs : List X) → sum_ℤ (λ x. number_if (test x) n) xs ≡ pos (count_by test xs) *ℤ n
 sum-count test n [] = sym (zero-*ℤ n)
 sum-count test n (x ∷ xs) =
@@ -90,7 +90,7 @@ sum-exchange f (x ∷ xs) ys =
 abbrev pub is_once : {X : Type 0} → (X → Bool) → List X → Bool
 is_once test xs = nat_eq (count_by test xs) 1
 
--- one number at each item that passes, where one does
+-- the sum of one number for each item that passes, if one item does
 pub once-count : {X : Type 0} (test : X → Bool) (n : ℤ) (xs : List X) → is_once test xs ≡ true → sum_ℤ (λ x. number_if (test x) n) xs ≡ n
 once-count test n xs h =
     sum-count test n xs ∙ ap (λ k. pos k *ℤ n) (eqb-true (count_by test xs) 1 h) ∙ *ℤ_comm (pos 1) n ∙ times-one n

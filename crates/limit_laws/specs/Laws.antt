@@ -14,8 +14,8 @@ use Rattle.mask_laws.specs.Laws.{IsManifoldWithSharpBoundary}
 abbrev pub value_in : Level → List Value → Mask → Value
 value_in level values mask = mask_value (source_value level values) mask
 
--- Point v has this limit mask in a manifold of quads with a sharp boundary. The values of the points are over denominators above
--- 0.
+-- Point v has this limit mask in a manifold of quads whose boundary is infinitely sharp. The values of the points are over
+-- denominators above 0.
 pub record LimitPoint : Type 0 where
   pub level : Level
   pub well : IsManifoldWithSharpBoundary level
@@ -27,8 +27,8 @@ pub record LimitPoint : Type 0 where
   pub mask : Mask
   pub is : limit_of level v ≡ Ok mask
 
--- Point v has this limit mask after k steps from a manifold with a sharp boundary, in a level of quads only. The values are
--- refined from control numbers.
+-- Point v has this limit mask after k steps from a manifold whose boundary is infinitely sharp, in a level of quads. The values
+-- are refined from control numbers.
 pub record RefinedLimitPoint : Type 0 where
   pub base : Level
   pub well : IsManifoldWithSharpBoundary base
@@ -44,7 +44,7 @@ pub record RefinedLimitPoint : Type 0 where
 abbrev pub values_after : Level → List ℤ → ℕ → List Value
 values_after base controls k = refined_values base CatmullClark (control_values controls) k
 
--- the limit of a point after a number of steps
+-- the value listed as the limit of a point after a number of steps
 abbrev pub limit_after : Level → List ℤ → ℕ → ℕ → Value
 limit_after base controls k v = point_value (limit_values (refined_level base k) (values_after base controls k)) v
 
@@ -55,7 +55,7 @@ pub record HasLimit (level : Level) (values : List Value) (v : ℕ) (x : Value) 
   pub same : IsSameValue x (value_in level values mask)
   pub above_zero : (0 < x.den) × (0 < (value_in level values mask).den)
 
--- The point keeps the value of its limit mask after so many further steps: it has a limit mask there too, which gives the same value.
+-- after j further steps the point has a limit mask, and it gives the value of the first limit mask
 abbrev pub KeepsLimit : RefinedLimitPoint → ℕ → Type 0
 KeepsLimit point j =
     HasLimit (refined_level point.base (point.k + j)) (values_after point.base point.controls (point.k + j)) point.v

@@ -13,8 +13,8 @@ ghost use Rattle.limit_laws.specs.Laws.{LimitPoint, RefinedLimitPoint, HasLimit,
 /// A limit point does not move under further steps. In a manifold of quads whose boundary is infinitely sharp, a point with a
 /// limit mask has one after every number of steps.
 ///
-/// All of these masks give the same value, for all values of the points, over denominators above 0. For refined control numbers,
-/// each limit listed at a level of quads is listed at every later level.
+/// All of these masks give the same value, for all values of the points over denominators above 0. For refined control numbers,
+/// the limit values listed for the point at all these levels are equal, over denominators above 0.
 pub fn further_steps_leave_limit_points()
     ensures step { (point : LimitPoint) → HasLimit (child_level point.level) (child_values point.level CatmullClark point.values) point.v
         (value_in point.level point.values point.mask) }
@@ -32,7 +32,7 @@ pub fn next_levels_have_quads()
     ensures later { (level : Level) (k : ℕ) → IsTrue (has_quads (refined_level level (suc k))) }
 {}
 
-/// Every later level of a well-formed manifold whose boundary is infinitely sharp is such a manifold.
+/// Every later level of a well-formed manifold whose boundary is infinitely sharp is again one.
 pub fn manifolds_keep_a_sharp_boundary()
     ensures { (level : Level) (k : ℕ) → IsManifoldWithSharpBoundary level → IsManifoldWithSharpBoundary (refined_level level k) }
 {}
