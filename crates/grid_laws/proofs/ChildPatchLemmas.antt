@@ -1,4 +1,4 @@
--- The four children of a face with a patch have patches, and the points of these follow from those of the face's own.
+-- The four children of a face with a patch have patches, whose points follow from the points of its patch.
 use Rattle.std.proofs.Common.{◌≡◌, ℕ, zero, suc, ◌<◌, true, List, [], ◌∷◌, length, get_or, arith, ap, sym, ◌∙◌}
 use Rattle.std.proofs.lemmas.List.Sums.{sum_by_more_le}
 use Rattle.subdiv_model.specs.Lists.{last_of}

@@ -1,4 +1,4 @@
--- Each quad of a level gives one at each of its corners in the next level, and the nine of a grid give those of a child.
+-- Each quad of a level gives a quad of the next level at each of its corners. The nine quads of a grid give those of a child.
 use Rattle.std.proofs.Common.{◌≡◌, ℕ, zero, suc, ◌<◌, true, List, [], ◌∷◌, arith, refl, ap, sym, ◌∙◌}
 use Rattle.std.specs.List.{list_all}
 use Rattle.subdiv_model.specs.Polygons.{Polygon, polygon_at, has_distinct_sides}
@@ -50,7 +50,7 @@ module _ (level : Level) (well : IsManifoldWithSharpBoundary level) where
             ∙ ap (λ (n : ℕ). p ∷ edge_point points polygons (p, q) ∷ face_point points k ∷ edge_point points polygons (n, p) ∷ []) before);
       }
 
-  -- an edge has one point, whichever way it goes
+  -- an edge has one new point, named in either direction
   pub edge-back : (a b : ℕ) → edge_point level.point_count level.polygons (a, b) ≡ edge_point level.point_count level.polygons (b, a)
   edge-back a b = back-point points polygons (level-over level well) simple (b, a)
 

@@ -60,7 +60,7 @@ module _ (polygons : List Polygon) (simple : list_all is_simple polygons ≡ tru
 
 -- Regular points.
 
--- what a regular point is, one by one
+-- what a regular point is, condition by condition
 pub record IsRegular (level : Level) (v : ℕ) : Type 0 where
   pub inside : is_at_boundary level v ≡ false
   pub four : length (faces_at level v) ≡ 4
@@ -187,7 +187,7 @@ pub grid-patch : (level : Level) (face : ℕ) (grid : List (List ℕ)) → IsGri
 grid-patch level face grid is e =
     and_from _ _ (ap (λ (p : Polygon). nat_eq (length p) 4) e) (ap (list_all (is_regular_in_quads level)) e ∙ is.regular)
 
--- whose points are the grid
+-- the points of the patch of the face in the middle of a grid are the grid
 pub grid-points : (level : Level) (face : ℕ) (grid : List (List ℕ)) → IsManifoldWithSharpBoundary level → IsGrid level grid
     → polygon_at level.polygons face ≡ inner_corners grid → patch_points level face ≡ grid
 grid-points level face grid well is e =

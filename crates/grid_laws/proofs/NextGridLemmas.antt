@@ -71,7 +71,7 @@ module _ (level : Level) (well : IsManifoldWithSharpBoundary level) where
   smooth-side {p} {q} regular quad =
       regular-edge level well p quad.face q regular (out-side quad)
 
-  -- a regular point of the level stays so
+  -- a regular point of the level is regular in the next level
   pub next-vertex : {p q r s : ℕ} → is_regular_in_quads level p ≡ true → HasQuad level.polygons p q r s → is_regular_in_quads next p ≡ true
   next-vertex {p} {q} {r} {s} regular quad =
       let from = regular-star level well regular quad in

@@ -47,7 +47,7 @@ not-sharp Smooth h = refl
 not-sharp (Semi num den) h = absurd (false≢true (sym h))
 not-sharp Infinite h = absurd (false≢true (sym h))
 
--- the sharpness of an edge, whichever way it goes
+-- the sharpness of an edge, named in either direction
 pub sharpness-alike : (level : Level) (s t : ℕ × ℕ) → same_edge s t ≡ true → edge_sharpness_of level s ≡ edge_sharpness_of level t
 sharpness-alike level s t h = ap (λ n. get_or level.edge_sharpness n Smooth) (position-alike s t (edges_of level.polygons) h)
 

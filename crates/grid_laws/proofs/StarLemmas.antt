@@ -1,4 +1,4 @@
--- Four quads around a point: they are all its faces where these form one fan, and a point of four quads has such quads.
+-- Four quads around a point are all its faces, if these form one fan. A point of four quads has four quads around it.
 use Rattle.std.proofs.Common.{◌≡◌, ℕ, ◌+◌, Bool, true, false, not, nat_eq, List, [], ◌∷◌, length, arith, refl, ap, sym, ◌∙◌, subst, ◌⊎◌, inl, inr}
 use Rattle.std.specs.List.{list_all}
 use Rattle.std.proofs.lemmas.Bool.Decides.{nat_tests}

@@ -16,7 +16,7 @@ grid_at grid i j = get_or (get_or grid j []) i 0
 abbrev pub grid_row : List (List ℕ) → ℕ → List ℕ
 grid_row grid j = grid_at grid 0 j ∷ grid_at grid 1 j ∷ grid_at grid 2 j ∷ grid_at grid 3 j ∷ []
 
--- the grid as its first four rows of four points
+-- the first four points of each of the first four rows of the grid
 abbrev pub listed_grid : List (List ℕ) → List (List ℕ)
 listed_grid grid = grid_row grid 0 ∷ grid_row grid 1 ∷ grid_row grid 2 ∷ grid_row grid 3 ∷ []
 
@@ -41,7 +41,8 @@ pub record HasQuad (polygons : List Polygon) (p q r s : ℕ) : Type 0 where
 abbrev pub HasGridQuad : List Polygon → List (List ℕ) → ℕ → ℕ → Type 0
 HasGridQuad polygons grid i j = HasQuad polygons (grid_at grid i j) (grid_at grid (i + 1) j) (grid_at grid (i + 1) (j + 1)) (grid_at grid i (j + 1))
 
--- The nine quads of the grid are faces of the level, and the corners of the quad in the middle are regular.
+-- The grid has four rows of four points. Its nine quads are faces of the level, and the corners of the quad in the middle are
+-- regular.
 pub record IsGrid (level : Level) (grid : List (List ℕ)) : Type 0 where
   pub listed : grid ≡ listed_grid grid
   pub quads : (i j : ℕ) → i < 3 → j < 3 → HasGridQuad level.polygons grid i j
@@ -94,17 +95,17 @@ child_grid level grid =
     ∷ (along_of level grid 0 2 ∷ grid_at grid 1 2 ∷ along_of level grid 1 2 ∷ grid_at grid 2 2 ∷ [])
     ∷ []
 
--- the grid of the child of the corner that is so many places after the first
+-- the grid of the child of the corner that is c places after the first
 abbrev pub corner_grid : Level → ℕ → List (List ℕ) → List (List ℕ)
 corner_grid level c grid = child_grid level (grid_from c grid)
 
--- a face that has a patch, in a manifold with a sharp boundary
+-- a face that has a patch, in a manifold whose boundary is infinitely sharp
 pub record HasFacePatch (level : Level) (face : ℕ) : Type 0 where
   pub well : IsManifoldWithSharpBoundary level
   pub inside : face < length level.polygons
   pub is : IsTrue (has_patch level face)
 
--- a grid in a manifold with a sharp boundary, whose middle quad is the face
+-- a grid whose middle quad is the face, in a manifold whose boundary is infinitely sharp
 pub record HasGridAbout (level : Level) (face : ℕ) (grid : List (List ℕ)) : Type 0 where
   pub well : IsManifoldWithSharpBoundary level
   pub is : IsGrid level grid

@@ -8,8 +8,8 @@ ghost use Rattle.subdiv_model.specs.Patch.{has_patch, patch_points};
 ghost use Rattle.mask_laws.specs.Laws.{IsManifoldWithSharpBoundary};
 ghost use Rattle.grid_laws.specs.Grids.{HasFacePatch, HasGridAbout, IsGrid, child_grid, child_of, corner_grid, grid_from, inner_corners};
 
-/// The points of the patch of a face form a grid with the face in the middle. Every grid with the face in the middle has these
-/// points.
+/// The points of the patch of a face form a grid with the face in the middle. A face in the middle of a grid has a patch, and the
+/// points of the patch are those of the grid.
 pub fn faces_with_patches_have_grids()
     ensures grid { (level : Level) (face : ℕ) → HasFacePatch level face → IsGrid level (patch_points level face) }
     ensures middle { (level : Level) (face : ℕ) → IsTrue (has_patch level face) → polygon_at level.polygons face ≡ inner_corners (patch_points level face) }
@@ -17,14 +17,15 @@ pub fn faces_with_patches_have_grids()
     ensures same { (level : Level) (face : ℕ) (grid : List (List ℕ)) → HasGridAbout level face grid → patch_points level face ≡ grid }
 {}
 
-/// A grid seen from another corner of its middle is a grid. In the next level it has a grid around the child of its first corner.
+/// A grid seen from another corner of its middle is a grid. In a manifold whose boundary is infinitely sharp, the points around
+/// the child of its first corner are a grid of the next level.
 pub fn next_levels_have_grids()
     ensures turned { (level : Level) (grid : List (List ℕ)) (c : ℕ) → IsGrid level grid → IsGrid level (grid_from c grid) }
     ensures next { (level : Level) (grid : List (List ℕ)) → IsManifoldWithSharpBoundary level → IsGrid level grid → IsGrid (child_level level) (child_grid level grid) }
 {}
 
-/// The four children of a regular inner face are regular inner faces. The points of their patches follow from the points of its
-/// patch.
+/// The four children of a face with a patch are faces with patches. The points of their patches follow from the points of its
+/// patch. The level is a manifold whose boundary is infinitely sharp.
 pub fn children_have_patches()
     ensures inside { (level : Level) (face c : ℕ) → face < length level.polygons → IsTrue (has_patch level face) → c < 4
         → child_of level.polygons face c < length (child_level level).polygons }
