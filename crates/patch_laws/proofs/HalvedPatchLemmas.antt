@@ -1,4 +1,4 @@
--- The patch of a child has the values of its parent at halved places.
+-- The patch of a child has the values of the parent's patch.
 use Rattle.std.proofs.Common.{ℕ, suc, ◌*◌, ◌<◌, refl, sym, subst}
 use Rattle.subdiv_model.specs.Child.{child_level, refined_level}
 use Rattle.subdiv_model.specs.Mask.{CatmullClark}

@@ -1,4 +1,4 @@
--- At halved places the points of the next level have the values of their parents.
+-- The grid of a child gives the values of the grid of its parent.
 use Rattle.std.proofs.Common.{◌≡◌, ℕ, ◌*◌, ◌^◌, ◌<◌, ◌≤◌, ℤ, pos, ◌*ℤ◌, List, arith, refl, ap, sym, ◌∙◌}
 use Rattle.std.proofs.Math.IntN.{*ℤ_comm}
 use Rattle.std.proofs.Math.Nat.{one-le-pow}

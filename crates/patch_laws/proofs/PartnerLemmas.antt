@@ -1,4 +1,5 @@
--- Two lists of one length, in which items have partners: where each of the one list has some, and each of the other has one, each has one.
+-- Partners in two lists of one length. If each item of the first list has a partner, and each of the second has exactly one, each
+-- of the first has exactly one.
 use Rattle.std.proofs.Common.{◌≡◌, ℕ, ◌+◌, ◌≤◌, Bool, true, nat_eq, ℤ, List, [], ◌∷◌, length, arith, refl, ap, sym, ◌∙◌}
 use Rattle.std.specs.List.{list_all, list_any, sum_by, count_by}
 use Rattle.std.proofs.lemmas.Bool.{and_parts, and_from, eq-eqb, eqb-true}

@@ -42,7 +42,7 @@ divides-at m [] each p = one-dvd m
 divides-at m (x ∷ values) each zero = each.0
 divides-at m (x ∷ values) each (suc p) = divides-at m values each.1 p
 
--- the least common multiple of all denominators is such a denominator
+-- over the least common multiple of all denominators all points are whole
 pub have-numbers : (values : List Value) → ArePositive values → HaveNumbers values
 have-numbers values each =
     let m = lcm_of_all (map (λ x. x.den) values) in

@@ -13,7 +13,7 @@ use Rattle.mask_laws.specs.Laws.{IsManifoldWithSharpBoundary}
 use Rattle.limit_laws.specs.Laws.{HasLimit, value_in, values_after}
 use Rattle.grid_laws.specs.Grids.{child_of}
 
--- The face has a patch in a manifold with a sharp boundary. The values of the points are over denominators above 0.
+-- The face has a patch, in a manifold whose boundary is infinitely sharp. The values of the points are over denominators above 0.
 pub record PatchFace : Type 0 where
   pub level : Level
   pub well : IsManifoldWithSharpBoundary level
@@ -23,7 +23,8 @@ pub record PatchFace : Type 0 where
   pub inside : face < length level.polygons
   pub is : IsTrue (has_patch level face)
 
--- The face has a patch after k steps from a manifold with a sharp boundary. The values are refined from control numbers.
+-- The face has a patch after k steps from a manifold whose boundary is infinitely sharp. The values are refined from control
+-- numbers.
 pub record RefinedPatchFace : Type 0 where
   pub base : Level
   pub well : IsManifoldWithSharpBoundary base
@@ -50,7 +51,7 @@ value_on_child face c m place =
 abbrev pub refined_on : RefinedPatchFace → ℕ → ℕ × ℕ → Value
 refined_on face m place = patch_at (refined_level face.base face.k) (values_after face.base face.controls face.k) face.face m place
 
--- the value of the patch of the child of a corner, one step further on
+-- the value of the patch of the child of a corner, after one more step
 abbrev pub refined_on_child : RefinedPatchFace → ℕ → ℕ → ℕ × ℕ → Value
 refined_on_child face c m place =
     patch_at (refined_level face.base (suc face.k)) (values_after face.base face.controls (suc face.k))
@@ -70,7 +71,7 @@ corner_place m (suc zero) = (m, 0)
 corner_place m (suc (suc zero)) = (m, m)
 corner_place m (suc (suc (suc c))) = (0, m)
 
--- the corner of a face
+-- the vertex at a corner of a face
 abbrev pub corner_of : Level → ℕ → ℕ → ℕ
 corner_of level face c = get_or (polygon_at level.polygons face) c 0
 

@@ -5,14 +5,14 @@ ghost use Rattle.subdiv_model.specs.Value.{IsSameValue};
 ghost use Rattle.limit_laws.specs.Laws.{HasLimit};
 ghost use Rattle.patch_laws.specs.Laws.{HasCornerLimit, IsPlace, PatchFace, RefinedPatchFace, corner_of, corner_place, parent_place, refined_on, refined_on_child, value_on, value_on_child};
 
-/// At each place the child of a corner has the value that its parent has at the halved place. The law holds for all values of the
-/// points over denominators above 0, and for refined control numbers.
+/// The patch of a child has at each place the value of its parent's patch at the same point, over twice as many steps. The law holds for
+/// all values of the points over denominators above 0, and for refined control numbers.
 pub fn children_have_the_values_of_their_parent()
     ensures step { (face : PatchFace) (c m : ℕ) (place : ℕ × ℕ) → c < 4 → IsPlace m place → IsSameValue (value_on face (2 * m) (parent_place m c place)) (value_on_child face c m place) }
     ensures controls { (face : RefinedPatchFace) (c m : ℕ) (place : ℕ × ℕ) → c < 4 → IsPlace m place → IsSameValue (refined_on face (2 * m) (parent_place m c place)) (refined_on_child face c m place) }
 {}
 
-/// At a corner of the face the patch gives the limit point of that vertex.
+/// At a corner of the face the patch gives the limit point of that vertex, which has a limit mask.
 pub fn corners_have_their_limits()
     ensures step { (face : PatchFace) (c m : ℕ) → c < 4 → 0 < m → HasLimit face.level face.values (corner_of face.level face.face c) (value_on face m (corner_place m c)) }
     ensures controls { (face : RefinedPatchFace) (c m : ℕ) → c < 4 → 0 < m → HasCornerLimit face c (refined_on face m (corner_place m c)) }
