@@ -1,4 +1,4 @@
--- What the lines of faces say: the points of their corners, and their texture values.
+-- What the lines of faces are read as: the points of their corners, and their texture values.
 use Rattle.std.proofs.Common.{◌≡◌, ℕ, zero, suc, ◌+◌, ◌<◌, pos, Bool, true, nat_lt, List, [], ◌∷◌, length, map, take, get_or, Option, Some, None, arith, refl, ap, sym, subst, ◌∙◌, add-one}
 use Rattle.std.specs.Prelude.{codes, unwrap_or}
 use Rattle.std.specs.List.{list_all, filter, AllByRecursion}
@@ -17,7 +17,7 @@ use Rattle.text_laws.proofs.NumberLemmas.{number-digits, index-back}
 use Rattle.text_laws.proofs.LineLemmas.{lacks-all}
 use Rattle.text_laws.proofs.KeptLemmas.{Words}
 
--- a property of all items of a kind is one of each such item
+-- a property of all items that pass a test is one of each item that passes
 pub kept-at : {X : Type 0} (test : X → Bool) (P : X → Type 0) (d : X) (xs : List X) (i : ℕ) → AllByRecursion P (filter test xs) → i < length xs
     → test (get_or xs i d) ≡ true → P (get_or xs i d)
 kept-at test P d [] i all low passes = absurd (omega arith)

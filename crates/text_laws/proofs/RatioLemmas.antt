@@ -22,7 +22,7 @@ decimal-amount word other =
     let form = normal_amount word in
     rw other (lowest-same form.0 (10 ^ form.1) (number_of_digits (all_digits word) * 10 ^ tens_above word) (10 ^ tens_below word) (tens form.1) (tens (tens_below word)) (word-reduced word).value)
 
--- a word that is the text of a fraction, without its sign: its amount, and when it is in range and fine enough for a sharpness
+-- the text of a fraction without its sign: its amount, and when it is in range as a coordinate and as a sharpness
 pub record IsRatio (word : List ℕ) (a b : ℕ) : Type 0 where
   pub amount : numeral_amount word ≡ lowest (a, b)
   pub numeral : is_numeral word ≡ true

@@ -45,7 +45,7 @@ well-parts level h =
     let second = and_parts (is_over level.point_count level.polygons) (nat_eq (length level.holes) (length level.polygons)) third.0 in
     record { over = second.0; holes = eqb-true (length level.holes) (length level.polygons) second.1; edges = fifth.1; vertices = sixth.1 }
 
--- where holes are shown all faces are
+-- with holes, all faces are shown
 pub shown-all : {X : Type 0} (level : Level) (items : List X) → length level.holes ≡ length items → shown true level items ≡ items
 shown-all level items same =
     ap (map (λ item. item.0)) (filter-all (λ item. true || not item.1) (zip items level.holes) (all-always (λ item. true || not item.1) (λ item. refl) (zip items level.holes)))
@@ -65,7 +65,7 @@ module _ {Face : Type 0} (points : List Point) (texture : List (Value × Value))
       ∙ length-map points vertex_words
       ∙ counted
 
-  -- where the corners of the faces are read back, all is
+  -- if the corners of the faces are read back, the mesh is
   pub all-back : (least : ℕ) → All HasDenominators points → faces_of lines ≡ level.polygons → IsReadBack level points (mesh_of_lines lines least)
   all-back least positive same =
       let is = well-parts level well in

@@ -64,7 +64,7 @@ sharpness-unsigned Smooth = refl
 sharpness-unsigned (Semi num den) = (ratio-unsigned num den).1
 sharpness-unsigned Infinite = refl
 
--- the numeral is in range, and fine enough if its denominator is at most 10^6
+-- the numeral is in range, and in range as a sharpness if its denominator is at most 10^6
 semi-ratio : (num den : ℕ) → is_proper_sharpness (Semi num den) ≡ true → IsRatio (ratio_text (num, den)) num den
 semi-ratio num den proper = ratio-back (ratio_text (num, den)) num den (proper-of num den proper).over (ratio-unsigned num den).0
 

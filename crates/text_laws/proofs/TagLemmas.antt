@@ -1,4 +1,4 @@
--- What the lines of the tags of a level say: its sharpnesses, its holes, its boundary mode and its method.
+-- What the lines of the tags of a level are read as: its sharpnesses, its holes, its boundary mode and its method.
 use Rattle.std.proofs.Common.{◌≡◌, ℕ, true, List, [], ◌∷◌, map, refl, ap, ◌∙◌}
 use Rattle.std.specs.Prelude.{unsigned_abs}
 use Rattle.std.specs.List.{list_all, flat_map}

@@ -1,4 +1,4 @@
--- Two quads side by side, with a point, a crease, a corner tag, a hole and a method that plain levels lack.
+-- Two quads that share an edge, with a crease, a corner tag, a hole, a negative coordinate and the method `chaikin`.
 -- Source: Drillolive.
 use Rattle.std.specs.Prelude.{ℕ, pos, negsuc, true, false, List, [], ◌∷◌, ◌++◌, None}
 use Rattle.subdiv_model.specs.Sharpness.{Smooth, Semi, Infinite, Chaikin}

@@ -29,7 +29,7 @@ lowest_terms value = (with_sign_of value.num (lowest_amount value).0, (lowest_am
 abbrev pub value_over : ℕ → ℤ → Value
 value_over common n = record { num = n; den = common }
 
--- the value that is read over a common denominator where a value was written
+-- the value that is read over a common denominator from the text of a value
 abbrev pub read_over : ℕ → Value → Value
 read_over common value = value_over common (number_over common (value_text value))
 

@@ -96,10 +96,11 @@ pub record MeshToWrite : Type 0 where
   pub cut : Level
   pub texture : List (Value × Value)
 
--- its text without tags, and its lines
+-- the text of a mesh with texture, without tags
 abbrev pub text_to_write : MeshToWrite → List ℕ
 text_to_write mesh = textured_mesh_text None mesh.holes mesh.level mesh.points mesh.cut mesh.texture
 
+-- the lines of a mesh with texture, without tags
 abbrev pub lines_to_write : MeshToWrite → List Line
 lines_to_write mesh = textured_mesh_lines mesh.holes mesh.level mesh.points mesh.cut mesh.texture
 

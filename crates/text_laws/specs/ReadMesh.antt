@@ -25,7 +25,7 @@ pub record HasTextureDenominators (value : Value × Value) : Type 0 where
   pub u : 0 < value.0.den
   pub v : 0 < value.1.den
 
--- a well-formed level and its points
+-- a well-formed level and a point for each of its points, with denominators of at least 1
 pub record WrittenMesh : Type 0 where
   pub level : Level
   pub points : List Point
@@ -45,7 +45,8 @@ mesh_read mesh least = read_obj_mesh (written_text mesh) least
 abbrev pub has_corners : List ℕ → Bool
 has_corners polygon = nat_lt 0 (length polygon)
 
--- a mesh with a cut level, whose faces have as many corners as those of the mesh, and with its texture values
+-- A mesh with a cut level, whose faces have as many corners as those of the mesh, and with texture values. The corners of the cut
+-- level are texture values, whose denominators are at least 1.
 pub record TexturedMesh : Type 0 where
   pub mesh : WrittenMesh
   pub cut : Level
@@ -63,13 +64,13 @@ textured_text given =
 abbrev pub textured_read : TexturedMesh → ℕ → ObjMesh
 textured_read given least = read_obj_mesh (textured_text given) least
 
--- the coordinates of a point are these numbers over a common denominator
+-- the coordinates of a point have the values of these numbers over a common denominator
 pub record IsPointOver (common : ℕ) (point : Point) (numbers : ℤ × ℤ × ℤ) : Type 0 where
   pub x : IsSameValue point.0 (value_over common numbers.0)
   pub y : IsSameValue point.1 (value_over common numbers.1)
   pub z : IsSameValue point.2 (value_over common numbers.2)
 
--- the coordinates of a texture value are these numbers over a common denominator
+-- the coordinates of a texture value have the values of these numbers over a common denominator
 pub record IsTextureOver (common : ℕ) (value : Value × Value) (numbers : ℤ × ℤ) : Type 0 where
   pub u : IsSameValue value.0 (value_over common numbers.0)
   pub v : IsSameValue value.1 (value_over common numbers.1)
@@ -94,7 +95,8 @@ pub record IsReadBack (level : Level) (points : List Point) (mesh : ObjMesh) : T
   pub boundary : mesh.boundary ≡ EdgeOnly
   pub method : mesh.method ≡ level.method
 
--- the mesh has the texture values over their common denominator, and the faces of the cut level if it has a face
+-- The mesh has the texture values over their common denominator, and the faces of the cut level as texture corners. It has texture
+-- if it has a face.
 pub record IsTextureReadBack (cut : Level) (texture : List (Value × Value)) (mesh : ObjMesh) : Type 0 where
   pub above_zero : 0 < mesh.texture_common
   pub count : length mesh.texture ≡ length texture

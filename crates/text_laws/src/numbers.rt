@@ -12,7 +12,7 @@ ghost use Rattle.subdiv_model.specs.Text.{sharpness_text};
 ghost use Rattle.subdiv_model.specs.Value.{Value, IsSameValue};
 ghost use Rattle.text_laws.specs.Laws.{lowest_terms, read_over};
 
-/// The text of a whole number is one or more digits that read as the number.
+/// The text of a whole number is one or more digits. As digits and as an index it is read as the number.
 pub fn whole_numbers_are_read_back()
     ensures digits { (n : ℕ) → IsTrue (list_all is_digit (number_text n)) }
     ensures some { (n : ℕ) → 0 < length (number_text n) }
@@ -21,8 +21,8 @@ pub fn whole_numbers_are_read_back()
     ensures place { (n : ℕ) → index_of (number_text n) ≡ pos n }
 {}
 
-/// The text of a value is a numeral with the value's lowest terms. Over a common denominator that these divide, the number that
-/// is read is the value.
+/// The text of a value is a numeral that is read as the value in lowest terms. Over a multiple of the lowest denominator, the
+/// number that is read has the value.
 pub fn values_are_read_back()
     ensures numeral { (value : Value) → 0 < value.den → IsTrue (is_numeral (value_text value)) }
     ensures terms { (value : Value) → 0 < value.den → numeral_form (value_text value) ≡ lowest_terms value }
@@ -30,7 +30,7 @@ pub fn values_are_read_back()
     ensures over { (common : ℕ) (value : Value) → 0 < value.den → (lowest_terms value).1 ∣ common → IsSameValue (read_over common value) value }
 {}
 
-/// The text of a sharpness is a numeral without a minus that reads as the sharpness.
+/// The text of a sharpness is a numeral without a minus. It is read as the sharpness.
 pub fn sharpnesses_are_read_back()
     ensures numeral { (s : Sharpness) → IsTrue (is_proper_sharpness s) → IsTrue (is_numeral (sharpness_text s)) }
     ensures unsigned { (s : Sharpness) → has_minus (sharpness_text s) ≡ false }
