@@ -1,4 +1,4 @@
--- The example meets the premises.
+-- The premises of the law hold for the example.
 use Rattle.std.proofs.Common.{◌≡◌, ℕ, true, None, refl}
 use Rattle.far_model.specs.Command.{RefineOptions, SmoothUv, ByTable}
 use Rattle.theorems.specs.Continued.{TaggedText, FurtherSteps, text_after, text_at_once}

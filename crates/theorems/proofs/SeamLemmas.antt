@@ -32,7 +32,7 @@ use Rattle.limit_laws.proofs.NumberLemmas.{IsNumber, same-number}
 use Rattle.theorems.proofs.StraightLemmas.{IsStraight, straight-child}
 use Rattle.theorems.proofs.DescendantLemmas.{descendants-boundary, descendants-exact}
 
--- Linear refinement sees the points and polygons of its levels, and nothing else.
+-- Linear refinement depends on the points and polygons of its levels only.
 
 abbrev Shape : Type 0
 Shape = ℕ × List Polygon
@@ -128,7 +128,7 @@ module _ (mesh : ObjMesh) (manifold : IsManifold (length mesh.points) mesh.faces
   abbrev base : Level
   base = cut_level BoundarySeams mesh
 
-  -- whose boundary edges are infinitely sharp
+  -- the boundary edges of the cut mesh are infinitely sharp
   pub cut-sharp : IsSharpAtBoundary base
   cut-sharp =
       let simple = all-simple (cut_point_count mesh) (cut_faces mesh) cut-is in
@@ -165,7 +165,7 @@ module _ (mesh : ObjMesh) (manifold : IsManifold (length mesh.points) mesh.faces
       → list_any (same_edge edge) (boundary_descendants base k) ≡ is_boundary (refined_level base k).polygons edge
   seams-exact = descendants-exact base cut-sharp
 
--- each level has the same points and polygons as where seams are smooth.
+-- each level has the points and polygons that it has with smooth seams
 pub seams-shape : (mesh : ObjMesh) (k : ℕ)
     → shape_of (refined_level (cut_level BoundarySeams mesh) k) ≡ shape_of (refined_level (cut_level SmoothSeams mesh) k)
 seams-shape mesh k = same-shape (cut_level BoundarySeams mesh) (cut_level SmoothSeams mesh) refl k

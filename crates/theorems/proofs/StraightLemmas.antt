@@ -36,8 +36,8 @@ pub record HasBoth (m : ℕ) (n : ℤ) (x y : Value) : Type 0 where
   pub first : IsNumber m n x
   pub second : IsNumber m n y
 
--- The values xs of Catmull and Clark's scheme and ys of linear refinement are one number over m at each end of a boundary
--- edge, and each such point is infinitely sharp or between its neighbours.
+-- At each end of a boundary edge the values xs, of Catmull and Clark's scheme, and ys, of linear refinement, are one number over m.
+-- Each of these ends is infinitely sharp, or is a crease and the middle of its two neighbours on the boundary.
 pub record IsStraight (level : Level) (m : ℕ) (number : ℕ → ℤ) (xs ys : List Value) : Type 0 where
   pub positive : 0 < m
   pub is : IsSharpAtBoundary level
@@ -76,7 +76,7 @@ module _ (level : Level) (m : ℕ) (number : ℕ → ℤ) (xs ys : List Value) (
     old-below : nat_lt v level.point_count ≡ true
     old-below = end-inside level.point_count v e (edge-of-one level.point_count level.polygons st.is.over st.is.simple e on_boundary).inside at
 
-    -- with its number
+    -- both values of an end of a boundary edge are its number over m
     own : HasBoth m (number v) (point_value xs v) (point_value ys v)
     own = st.both e v on_boundary at
 
@@ -155,7 +155,7 @@ module _ (level : Level) (m : ℕ) (number : ℕ → ℤ) (xs ys : List Value) (
     named : is_edge level e ≡ true
     named = (edge-of-one level.point_count level.polygons st.is.over st.is.simple e on_boundary).named
 
-    -- the edge has one face in its listed direction too
+    -- the edge has one face, named in its listed direction
     listed-boundary : is_boundary level.polygons as_listed ≡ true
     listed-boundary = sym (boundary-alike level.polygons st.is.simple e as_listed (listed-same level e named)) ∙ on_boundary
 
@@ -193,7 +193,7 @@ module _ (level : Level) (m : ℕ) (number : ℕ → ℤ) (xs ys : List Value) (
 
   -- Both kinds of points.
 
-  -- a fact of each end of the boundary edges of the next level, from one of each end of those of the level, and one of each new point
+  -- a fact of each end of a boundary edge of the next level, from facts of the old ends and of the new points
   ends-next : (P : ℕ → Type 0) → ((e : ℕ × ℕ) (v : ℕ) → is_boundary level.polygons e ≡ true → has_end v e ≡ true → P v)
       → ((e : ℕ × ℕ) → is_boundary level.polygons e ≡ true → P (point_of level e))
       → (t : ℕ × ℕ) (p : ℕ) → is_boundary (child_level level).polygons t ≡ true → has_end p t ≡ true → P p
@@ -206,7 +206,7 @@ module _ (level : Level) (m : ℕ) (number : ℕ → ℤ) (xs ys : List Value) (
           which (inl h) = subst P (sym (eqb-true p from.end h)) (old from.edge from.end from.on_boundary from.at_end)
           which (inr h) = subst P (sym (eqb-true p (point_of level from.edge) h)) (new from.edge from.on_boundary)
 
-  -- the next level keeps it
+  -- the boundary of the next level is straight
   pub straight-child : IsStraight (child_level level) (2 * m) next xs_next ys_next
   straight-child = record {
     positive = omega (arith, st.positive);

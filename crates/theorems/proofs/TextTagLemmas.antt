@@ -18,12 +18,12 @@ use Rattle.number_laws.proofs.ListLemmas.{any-flat_map, any-both, last-split, la
 abbrev pub Line : Type 0
 Line = List (List ℕ)
 
--- what the lines of a kind give has something that passes exactly where a line of the kind gives such
+-- some item that the lines of a kind give passes exactly where a line of the kind gives an item that passes
 pub any-made : {X Y : Type 0} (kind : X → Bool) (make : X → List Y) (keep : Y → Bool) (xs : List X)
     → list_any keep (flat_map make (filter kind xs)) ≡ list_any (λ x. kind x && list_any keep (make x)) xs
 any-made kind make keep xs = any-flat_map keep make (filter kind xs) ∙ any-both kind (λ x. list_any keep (make x)) xs
 
--- the last line of a kind that gives something to keep gives the last
+-- the last line of a kind that gives an item that passes gives the last of these items
 last-line : {X Y Z : Type 0} (kind : X → Bool) (make : X → List Y) (value : Y → Z) (keep : Y → Bool) (z : Z)
     (before : List X) (x : X) (after : List X)
     → (kind x && list_any keep (make x)) ≡ true → list_any (λ w. kind w && list_any keep (make w)) after ≡ false

@@ -61,7 +61,8 @@ pub record HasShortNumbers (given : TaggedText) : Type 0 where
   pub numbers : All IsShortPoint (second_mesh given).points
   pub texture : (first_mesh given).has_texture ≡ true → IsTextureReadable (written_texture given) (second_mesh given)
 
--- `refine` accepts the text at some depth, and the bytes at that depth plus the depth of the text, both without decimals
+-- `refine` accepts the text at some depth. It accepts the bytes at the depth of the text plus that depth. Both runs are without
+-- decimals.
 pub record FurtherSteps (given : TaggedText) : Type 0 where
   pub after : RefineOptions
   pub at_once : RefineOptions

@@ -2,7 +2,7 @@
 use Rattle.std.specs.Prelude.{◌≡◌, ℕ, List, codes}
 use Rattle.theorems.specs.Continued.{TaggedText, FurtherSteps, tagged_text}
 
--- two quads side by side: the edge between them has sharpness 5/2, vertex 0 is a corner, and the second face is a hole
+-- two quads that share an edge: this edge has sharpness 5/2, vertex 0 is a corner, and the second face is a hole
 abbrev pub quads_text : List ℕ
 quads_text = codes "v 0 0 0\nv 1 0 0\nv 1 1 0\nv 0 1 0\nv 2 0 0\nv 2 1 0\nf 1 2 3 4\nf 2 5 6 3\nt crease 2/1/0 1 2 2.5\nt corner 1/1/0 0 10\nt hole 1/0/0 1\n"
 

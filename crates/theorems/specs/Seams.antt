@@ -43,7 +43,7 @@ abbrev pub cut_value : SeamMode → Scheme → List ℤ → SeamEnd → Value
 cut_value seams scheme controls end =
     point_value (refined_values (cut_level seams end.mesh) scheme (control_values controls) end.k) end.p
 
--- the halves of the six outer edges of two quads side by side
+-- the halves of the six outer edges of two quads that share an edge
 abbrev pub halves_of_joined_quads : List (ℕ × ℕ)
 halves_of_joined_quads =
     (0, 8) ∷ (1, 8) ∷ (2, 10) ∷ (3, 10) ∷ (3, 11) ∷ (0, 11) ∷ (1, 12) ∷ (4, 12) ∷ (4, 13) ∷ (5, 13) ∷ (5, 14) ∷ (2, 14) ∷ []

@@ -27,8 +27,8 @@ pub fn tagged_texts_are_read()
 
 /// Refining the output of depth k by j steps gives the level and the `v` lines of the first mesh after k + j steps.
 ///
-/// The output has tags and no decimals. The answers have these `v` lines too, if neither is refused. If the first mesh has no
-/// texture and both runs ask for tags alike, the two answers are one text.
+/// The output has tags and no decimals. If neither run is refused, both answers have these `v` lines. If the first mesh also has no
+/// texture, and both runs have the same option for tags, the answers are one text.
 pub fn refinement_goes_on()
     ensures levels { (given : TaggedText) (j : ℕ) → refined_level (base_level (second_mesh given)) j
         ≡ refined_level (base_level (first_mesh given)) (given.options.depth + j) }

@@ -28,7 +28,7 @@ pub fn texture_is_linear_on_sharp_seams()
     ensures same_faces { (mesh : ObjMesh) (k : ℕ) → (sharp_level mesh k).polygons ≡ (smooth_level mesh k).polygons }
 {}
 
-/// An example: two quads side by side without a seam, their six outer edges, and the halves of these. A control number of 8 at a
+/// An example: two quads that share an edge without a seam, their six outer edges, and the halves of these. A control number of 8 at a
 /// corner stays 8 where the boundary stays sharp, and becomes 6 elsewhere.
 pub fn boundary_of_two_quads()
     ensures edges { boundary_descendants (cut_level BoundarySeams joined_quads) 0

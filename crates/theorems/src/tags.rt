@@ -1,7 +1,7 @@
 //! Laws of tags, from the lines of an OBJ text to level 0: the last tag that names an item counts, and holes add up.
 //!
-//! The record `LastOf` holds a list split as `before`, `element` and `after`: the element is of the kind, and nothing in `after`
-//! is.
+//! The record `LastOf` holds a list split as `before`, `element` and `after`: the element passes a test, and no item of `after`
+//! does.
 
 ghost use Rattle.std.specs.Prelude.{◌≡◌, ℕ, ◌<◌, false, ◌||◌, length, IsTrue};
 ghost use Rattle.std.specs.List.{list_any};
@@ -20,13 +20,15 @@ ghost use Rattle.theorems.specs.TagLines.{is_crease_line_of, is_corner_line_of, 
 
 // From the text to the mesh.
 
-/// An edge has the sharpness of the last crease line that names it, and of the last pair in that line.
+/// The creases of a mesh give an edge its sharpness in the last crease line that names it. There the last pair that names it
+/// counts.
 pub fn last_crease_line_counts()
     ensures { (text : Text) (edge : ℕ × ℕ) (last : LastCreaseLine text edge)
         → tagged_edge (mesh_of text).creases edge ≡ tagged_edge (tag_creases last.element) edge }
 {}
 
-/// A vertex has the sharpness of the last corner line that names it, and of the last place in that line.
+/// The corner tags of a mesh give a vertex its sharpness in the last corner line that names it. There the last place that names it
+/// counts.
 pub fn last_corner_line_counts()
     ensures { (text : Text) (v : ℕ) (last : LastCornerLine text v)
         → tagged_vertex (mesh_of text).corner_tags v ≡ tagged_vertex (tag_corners last.element) v }
@@ -51,7 +53,7 @@ pub fn last_method_line_counts()
 
 // From the mesh to level 0.
 
-/// At level 0 an edge has the sharpness of the last crease that names it, and is smooth if none does. A boundary edge is
+/// At level 0 an inner edge has the sharpness of the last crease that names it, and is smooth if none does. A boundary edge is
 /// infinitely sharp, whatever its creases.
 pub fn last_tag_names_the_edge()
     ensures last { (mesh : ObjMesh) (edge : ℕ × ℕ) (last : LastCrease mesh edge) → IsInnerEdge mesh.faces edge
@@ -81,8 +83,8 @@ pub fn holes_add_up()
 
 // From the text to level 0.
 
-/// At level 0 an inner edge has the sharpness of the last crease line that names it, and of the last pair in that line. It is
-/// smooth if no line names it. A boundary edge is infinitely sharp, whatever its lines.
+/// At level 0 an inner edge has its sharpness in the last crease line that names it, by the last pair there that names it. It is
+/// smooth if no crease line names it. A boundary edge is infinitely sharp, whatever the crease lines.
 pub fn last_crease_line_gives_the_edge()
     ensures last { (text : Text) (edge : ℕ × ℕ) (last : LastCreaseLine text edge) → IsInnerEdge (faces_of text.lines) edge
         → edge_sharpness text edge ≡ tagged_edge (tag_creases last.element) edge }
@@ -91,8 +93,8 @@ pub fn last_crease_line_gives_the_edge()
     ensures boundary { (text : Text) (edge : ℕ × ℕ) → IsTrue (is_boundary (faces_of text.lines) edge) → edge_sharpness text edge ≡ Infinite }
 {}
 
-/// At level 0 a vertex has the sharpness of the last corner line that names it, and of the last place in that line. It is smooth
-/// if no line names it. A vertex that the boundary mode makes a corner is infinitely sharp, whatever its lines.
+/// At level 0 a vertex has its sharpness in the last corner line that names it, by the last place there that names it. It is
+/// smooth if no corner line names it. A vertex that the boundary mode makes a corner is infinitely sharp, whatever its tags.
 pub fn last_corner_line_gives_the_vertex()
     ensures last { (text : Text) (v : ℕ) (last : LastCornerLine text v) → v < vertex_count text → is_mode_corner text v ≡ false
         → vertex_sharpness text v ≡ tagged_vertex (tag_corners last.element) v }
