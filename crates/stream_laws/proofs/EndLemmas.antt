@@ -20,7 +20,7 @@ ended {rule = rule} {lines = lines} {text = text} limit bytes refusal handled sp
     ∙ ap (after_text text) end
     ∙ after-nothing text refusal
 
--- the input ends after a line that nothing closes
+-- the input ends after a line that is not closed
 pub ended-unclosed : {rule : LineRule} {lines : List (List ℕ)} {text : List ℕ} (limit : ℕ) (bytes line more : List ℕ) (refusal : Option Fault)
     → IsHandled rule lines text → has_lf line ≡ false → 0 < length line → bytes ≡ text_of_lines lines ++ line → length bytes ≤ limit
     → rule.line lines line ≡ record { text = more; refusal = None } → rule.end (lines ++ line ∷ []) ≡ record { text = []; refusal = refusal }

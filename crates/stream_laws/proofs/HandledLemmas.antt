@@ -13,7 +13,7 @@ nothing-more before = record { text = []; refusal = None }
 abbrev pub only-text : List ℕ → Answer
 only-text text = record { text = text; refusal = None }
 
--- a text, and then nothing
+-- a text, and then no more
 pub after-nothing : (text : List ℕ) (refusal : Option Fault) → after_text text (record { text = []; refusal = refusal }) ≡ record { text = text; refusal = refusal }
 after-nothing text refusal = ap (λ t. record { text = t; refusal = refusal }) (append-nil text)
 

@@ -1,4 +1,4 @@
--- What `frames` refuses of the lines of a text whose last line nothing closes is what it refuses of the text.
+-- The refusal of `frames` for the lines of a text whose last line is not closed is that for the text.
 use Rattle.std.proofs.Common.{◌≡◌, ℕ, ◌<◌, true, false, List, [], ◌∷◌, ◌++◌, length, arith, refl, ap, sym, ◌∙◌, ⊎_elim, eq-zero-or-pos}
 use Rattle.far_model.specs.Command.{FramesOptions, Stencils}
 use Rattle.subdiv_model.specs.ReadObj.{obj_lines, lines_fault, mesh_of_lines}
@@ -20,7 +20,7 @@ wordless-refusal options =
     ap (λ fault. (answer_of_read (Stencils options.depth) fault (mesh_of_lines ([] ∷ []) options.scale)).refusal) (wordless-fault options.scale)
     ∙ ap (λ mesh. (answer_of_read (Stencils options.depth) (lines_fault [] options.scale) mesh).refusal) (wordless-mesh options.scale)
 
--- where a byte order mark is all
+-- where the text is a byte order mark
 only-mark-refusal : (options : FramesOptions) (lines : List (List ℕ)) (line : List ℕ) → 0 < length line → length (bytes_after lines line) ≡ 0
     → frames_refusal options (obj_lines (text_of_lines lines ++ line)) ≡ frames_refusal options (words_of_lines (lines ++ line ∷ []))
 only-mark-refusal options [] line some empty =
@@ -28,7 +28,7 @@ only-mark-refusal options [] line some empty =
     ap (frames_refusal options) parts.0 ∙ sym (wordless-refusal options) ∙ ap (frames_refusal options) (sym parts.1)
 only-mark-refusal options (first ∷ lines) line some empty = absurd (omega arith)
 
--- the last line is one that nothing closes
+-- the last line is not closed
 pub last-refusal : (options : FramesOptions) (lines : List (List ℕ)) (line : List ℕ) → are_lines lines ≡ true → has_lf line ≡ false → 0 < length line
     → frames_refusal options (obj_lines (text_of_lines lines ++ line)) ≡ frames_refusal options (words_of_lines (lines ++ line ∷ []))
 last-refusal options lines line closed none some =

@@ -58,7 +58,7 @@ pub last-refused : (rule : LineRule) (lines : List (List ℕ)) (line : List ℕ)
 last-refused rule lines line fault none some is =
     last-of-all rule lines line none ∙ last-line rule lines line some ∙ ap (λ first. then_answer first (rule.end (lines ++ line ∷ []))) is
 
--- the last line is refused, where nothing closes it
+-- the last line is refused, where no LF closes it
 pub last-line-refused : {rule : LineRule} {lines : List (List ℕ)} {text : List ℕ} (limit : ℕ) (bytes line : List ℕ) (fault : Fault)
     → IsHandled rule lines text → has_lf line ≡ false → 0 < length line → rule.line lines line ≡ refused fault
     → bytes ≡ text_of_lines lines ++ line → length bytes ≤ limit

@@ -64,7 +64,7 @@ module _ (depth : ℕ) (refusal : Words → Option Fault) (mesh : Words → ObjM
       ≡ frame_answer depth (mesh (mesh_lines (words_of_lines before))) (frame_lines (words_of_lines before)) (suc (length before)) line
   frame-line before line some = rw some refl
 
-  -- a line that nothing closes is refused only after the line `frames`, and only where it is too long
+  -- a line that is not closed is refused only after the line `frames`, and only where it is too long
   pub unclosed-mesh : (before : Lines) (bytes : List ℕ) → has_frames (words_of_lines before) ≡ false
       → (frames_rule depth refusal mesh).unclosed before bytes ≡ None
   unclosed-mesh before bytes none = rw none refl

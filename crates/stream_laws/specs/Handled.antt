@@ -24,7 +24,7 @@ pub record IsHandled (rule : LineRule) (lines : List (List ℕ)) (text : List �
   pub closed : are_lines lines ≡ true
   pub answered : answer_from rule (λ before. record { text = []; refusal = None }) [] lines ≡ record { text = text; refusal = None }
 
--- each line that begins with these bytes is refused, and the bytes themselves are refused before LF closes them
+-- each line that begins with these bytes is refused, and is refused before LF closes it
 pub record IsRefusedStart (rule : LineRule) (lines : List (List ℕ)) (start : List ℕ) (fault : Fault) : Type 0 where
   pub line : (others : List ℕ) → rule.line lines (start ++ others) ≡ refused fault
   pub unclosed : (others : List ℕ) → rule.unclosed lines (start ++ others) ≡ Some fault

@@ -9,7 +9,7 @@ use Rattle.far_model.specs.Stream.{LineRule, answer_of_lines}
 use Rattle.far_model.specs.Frames.{Frame, words_of_lines, words_after, is_frames_line, has_frames, mesh_lines, frame_lines, frame_at, frames_rule}
 use Rattle.stream_laws.specs.Handled.{has_lf, are_lines, text_of_lines, IsHandled, IsRefusedStart}
 
--- a text, and the refusal after it
+-- the answer of a text, and of the refusal after it, if there is one
 abbrev pub answer_with : List ℕ → Option Fault → Answer
 answer_with text refusal = record { text = text; refusal = refusal }
 
@@ -75,20 +75,20 @@ pub record RefusedLine (rule : LineRule) : Type 0 where
   pub fault : Fault
   pub is_refused : added_by line ≡ refused fault
 
--- pending bytes whose beginning is refused, whatever follows
+-- pending bytes that are refused, whatever follows them
 pub record RefusedStart (rule : LineRule) : Type 0 where
   pub start : Pending rule
   pub fault : Fault
   pub some : 0 < length start.bytes
   pub is_refused : IsRefusedStart rule start.before.lines start.bytes fault
 
--- all lines are closed, and the end of the input is judged
+-- lines that are all closed, and the refusal of the end of the input
 pub record EndOfLines (rule : LineRule) : Type 0 where
   pub lines : Handled rule
   pub refusal : Option Fault
   pub ended : rule.end lines.lines ≡ answer_with [] refusal
 
--- the last line is not closed, and the end of the input is judged
+-- a last line that is not closed, and the refusal of the end of the input
 pub record EndOfLine (rule : LineRule) : Type 0 where
   pub line : Pending rule
   pub text : List ℕ

@@ -11,8 +11,8 @@ ghost use Rattle.far_model.specs.Frames.{words_of_lines, frame_after};
 ghost use Rattle.stream_laws.specs.Handled.{are_lines, text_of_lines, IsHandled, IsRefusedStart};
 ghost use Rattle.stream_laws.specs.Laws.{Asked, FirstFrames, LinesWithFrames, OpenText, bytes_of_text, lines_of_text, rule_for, have_frames, mesh_words, frame_words, frame_of, long_line, answer_with};
 
-/// Lines have the words that the reader of meshes finds in their text. If the last line is not closed, `frames` refuses the text
-/// exactly where it refuses the lines.
+/// Lines have the words that the reader of meshes finds in their text. If the last line is not closed, `frames` has the same
+/// refusal for the text as for the lines.
 pub fn lines_have_the_words_of_their_text()
     ensures words { (lines : List (List ℕ)) → are_lines lines ≡ true → obj_lines (text_of_lines lines) ≡ words_of_lines lines }
     ensures unclosed { (options : FramesOptions) (text : OpenText)
@@ -35,7 +35,8 @@ pub fn lines_after_frames_are_frame_lines()
     ensures moved { (mesh : ObjMesh) (before : LinesWithFrames) (line : List ℕ) → frame_of mesh (before.lines ++ line ∷ []) ≡ frame_after mesh.common (frame_of mesh before.lines) (line_words line) }
 {}
 
-/// The lines of the mesh add nothing to the answer. The mesh is judged at the first line `frames`, or at the end of the input.
+/// The lines of the mesh add nothing to the answer, and bytes that LF has not closed are accepted. The mesh is judged at the first
+/// line `frames`, or at the end of the input.
 pub fn lines_of_a_mesh_add_nothing()
     ensures lines { (asked : Asked) (lines : List (List ℕ)) → are_lines lines ≡ true → have_frames lines ≡ false → IsHandled (rule_for asked) lines [] }
     ensures unclosed { (asked : Asked) (before : List (List ℕ)) (bytes : List ℕ) → have_frames before ≡ false → (rule_for asked).unclosed before bytes ≡ None }

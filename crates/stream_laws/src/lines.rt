@@ -13,7 +13,8 @@ pub fn lines_are_handled_one_by_one()
         → IsHandled rule (lines_to at) (at.before.text ++ text) }
 {}
 
-/// If a line is refused, the answer is the text of the lines before it and the refusal, whatever follows.
+/// If a line is refused, the answer is the text of the lines before it and the refusal, whatever follows. This also holds for the
+/// last line of an input, if no LF closes it.
 pub fn refused_lines_end_the_answer()
     ensures closed { (rule : LineRule) (at : RefusedLine rule) → IsAnsweredFrom rule (closed_to at.line) (refused_after at.line at.fault) }
     ensures last { (rule : LineRule) (at : RefusedLine rule) → 0 < length at.line.bytes → IsAnswered rule (bytes_to at.line) (refused_after at.line at.fault) }
@@ -24,14 +25,15 @@ pub fn refused_bytes_end_the_answer()
     ensures { (rule : LineRule) (at : RefusedStart rule) → IsAnsweredFrom rule (bytes_to at.start) (refused_after at.start at.fault) }
 {}
 
-/// Pending bytes that are not refused add nothing yet. If they fill the limit, an input of one byte more is too long.
+/// Pending bytes that are not refused add nothing yet. If all bytes so far fill the limit, an input with more bytes is too long.
 pub fn pending_bytes_add_nothing()
     ensures so_far { (rule : LineRule) (at : Pending rule) → unclosed_at at ≡ None → answer_so_far rule (bytes_to at) ≡ answer_with at.before.text None }
     ensures long { (rule : LineRule) (at : Pending rule) (b : ℕ) (more : List ℕ) → unclosed_at at ≡ None
         → answer_of_lines rule (length (bytes_to at)) (bytes_to at ++ b ∷ more) ≡ refused_after at Long }
 {}
 
-/// At the end of the input the refusal of all lines, if any, follows their text. Bytes that no LF closes are the last line.
+/// The answer to a whole input is the text of its lines, then the refusal of the end, if there is one. Bytes that no LF closes are
+/// the last line.
 pub fn the_end_comes_last()
     ensures closed { (rule : LineRule) (at : EndOfLines rule) → IsAnswered rule (bytes_of at.lines) (answer_with at.lines.text at.refusal) }
     ensures last { (rule : LineRule) (at : EndOfLine rule) → IsAnswered rule (bytes_to at.line) (answer_with (at.line.before.text ++ at.text) at.refusal) }
