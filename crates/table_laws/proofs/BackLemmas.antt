@@ -19,7 +19,7 @@ use Rattle.table_laws.proofs.RowLemmas.{row_words}
 use Rattle.table_laws.proofs.ReadLemmas.{header_words}
 use Rattle.table_laws.proofs.WrittenLemmas.{passed, not-failed, row-words-are}
 
--- a reading that goes on found nothing wrong with its line
+-- a reading that goes on found no fault in its line
 unless-read : (line : ℕ) (cause : Option TableCause) (result : Result Reading TableFault) (reading : Reading) → reading_unless line cause result ≡ Ok reading
     → (cause ≡ None) × (result ≡ Ok reading)
 unless-read line None result reading e = (refl, e)

@@ -7,7 +7,7 @@ use Rattle.subdiv_model.specs.Table.{Share, Row, Table}
 use Rattle.far_model.specs.Stored.{are_same_rows, row_difference, first_difference}
 use Rattle.table_laws.proofs.CommonLemmas.{no-some}
 
--- control points with numerators are the same where both are
+-- control points with numerators are the same if both the points and the numerators are
 shares-same : (xs ys : List Share) → map (λ share. share.0) xs ≡ map (λ share. share.0) ys → map (λ share. share.1) xs ≡ map (λ share. share.1) ys → xs ≡ ys
 shares-same [] [] points numbers = refl
 shares-same [] (y ∷ ys) points numbers = let long = ap length points in absurd (omega (arith, long))

@@ -56,7 +56,7 @@ no-fault-where true fault none = let long = ap length none in absurd (omega (ari
 
 -- Facts of a mesh whose table is not refused.
 
--- nothing is wrong with the text, and no table has a fault
+-- the text has no fault, and no table has a fault
 pub record IsComposed (depth : ℕ) (fault : Option ObjFault) (mesh : ObjMesh) : Type 0 where
   pub read_well : fault ≡ None
   pub is_mesh : first_mesh_fault (length mesh.points) mesh.faces ≡ None
@@ -169,7 +169,7 @@ fits (suc k) mesh none common points =
     subst (λ n. n * max (greatest_amount (point_numbers mesh.points)) mesh.common ≤ number_bound) (sym (own-greatest (base_level mesh) CatmullClark (suc k)))
     (ltb-false number_bound _ (within-bounds (positions_of mesh) Positions k none).numerators)
 
--- nothing is refused of the points of the mesh
+-- the points of the mesh are accepted
 pub can-evaluate : (depth : ℕ) (mesh : ObjMesh) → channel_faults Tables (positions_of mesh) Positions depth ≡ [] → mesh.common ≤ 10 ^ 37 → All IsShortPoint mesh.points
     → evaluation_fault (own_table depth mesh) mesh ≡ None
 can-evaluate depth mesh none common points =

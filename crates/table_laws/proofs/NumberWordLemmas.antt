@@ -1,4 +1,4 @@
--- Number words: the text of a number is one, and each is the text of the number that it says.
+-- Number words: the text of a number is a number word, and each number word is the text of its number.
 use Rattle.std.proofs.Common.{◌≡◌, ℕ, zero, suc, ◌+◌, ◌-◌, ◌*◌, ◌/◌, ◌%◌, ◌<◌, ◌≤◌, Bool, true, false, not, ◌||◌, nat_eq, nat_le, List, [], ◌∷◌, ◌++◌, length, arith, refl, ap, sym, ◌∙◌, append-nil, append_assoc, true≢false, eqb-true, leb-true}
 use Rattle.std.specs.List.{fold, list_all}
 use Rattle.std.proofs.lemmas.Bool.{and_parts, and_from, or_left}

@@ -13,7 +13,7 @@ use Rattle.number_laws.proofs.MultipleLemmas.{lcm_of_all-positive, product-posit
 use Rattle.mesh_laws.proofs.ClosedLemmas.{all-at}
 use Rattle.mask_laws.proofs.BoundaryLemmas.{IsSharpAtBoundary, sharp-levels}
 
--- a mask's, where those of its sources are
+-- the denominator of a mask is above 0 if those of its sources are
 mask-positive : (den : SourcePoint → ℕ) (mask : Mask) → 0 < mask.denominator → AllByRecursion (λ t. 0 < den t.source) mask.terms → 0 < mask_denominator den mask
 mask-positive den mask some each =
     product-positive mask.denominator (lcm_of_all (map (λ t. den t.source) mask.terms)) some

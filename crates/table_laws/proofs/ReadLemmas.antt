@@ -16,7 +16,7 @@ use Rattle.table_laws.proofs.LineLemmas.{are_words, IsFirstLine, line-read}
 use Rattle.table_laws.proofs.NumberWordLemmas.{number-word, number-says}
 use Rattle.table_laws.proofs.RowLemmas.{row_words, number-plain, row-plain, row-back, row-good, well-counted}
 
--- where nothing is wrong with a line, the reading goes on
+-- after a line without fault the reading goes on
 pub unless-none : (line : ℕ) (cause : Option TableCause) (reading : Result Reading TableFault) → cause ≡ None → reading_unless line cause reading ≡ reading
 unless-none line cause reading good = ap (λ c. reading_unless line c reading) good
 

@@ -119,7 +119,7 @@ well-counted header zero entries few all =
     let same = all refl in or_from _ _ (le-ltb header.entries entries few) (le-ltb entries header.entries (omega (arith, same)))
 well-counted header (suc left) entries few all = or_from _ _ (le-ltb header.entries entries few) (and_left _ _ (ne_eqb (suc left) 0 (λ none. omega arith)))
 
--- nothing is wrong with the words of a row
+-- the words of a row have no fault
 pub row-good : (header : Header) (left entries : ℕ) (row : Row) → IsRow header.controls row → is_miscounted header left (entries + length row.shares) ≡ false
     → row_words_cause header left entries (codes "s" ∷ row_words row) ≡ None
 row-good header left entries row is counted =

@@ -25,7 +25,7 @@ no-difference : (row : Option ℕ) → option_map Differs row ≡ None → row �
 no-difference None none = refl
 no-difference (Some row) none = absurd (no-some none)
 
--- a stored table without fault is this table, with no bytes after it
+-- a stored table without fault is the table of the mesh, with no bytes after it
 own-reading : (lines : ℕ) (own : Table) (read : Result Reading TableFault) → stored_fault lines own read ≡ None → read ≡ Ok (record { table = own; rest = [] })
 own-reading lines own (Err fault) none = absurd (no-some none)
 own-reading lines own (Ok reading) none = here _ (nat_eq (length reading.rest) 0) refl none
@@ -52,7 +52,7 @@ agreed refusal own bytes none =
     let is = table-written part (record { table = own; rest = [] }) (own-reading lines own (read_table part) both.1) in
     record { composed = both.0; stored = is.stored; text = is.text ∙ append-nil (text_of_table own) }
 
--- this table with no bytes after it has no fault
+-- the table of the mesh, with no bytes after it, has no fault
 own-fault : (lines : ℕ) (own : Table) → stored_fault lines own (Ok (record { table = own; rest = [] })) ≡ None
 own-fault lines own = ap (option_map Differs) ((difference-none own own).1 refl)
 

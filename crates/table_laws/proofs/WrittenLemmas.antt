@@ -91,7 +91,7 @@ increasing least (share ∷ next ∷ shares) up = at (increasing (suc share.0) (
         let e : suc (k + 1) ≡ suc k + 1 = omega arith in
         subst (λ n. get_or (map (λ s. s.0) (next ∷ shares)) k 0 < get_or (map (λ s. s.0) (share ∷ next ∷ shares)) n 0) e (rest k (omega arith))
 
--- what holds of a row, and of the entries up to it, with which nothing is wrong
+-- what holds of a row without fault, and of the entries up to it
 pub record IsGoodRow (header : Header) (left entries : ℕ) (row : Row) : Type 0 where
   pub is_row : IsRow header.controls row
   pub counted : is_miscounted header left (entries + length row.shares) ≡ false
@@ -125,7 +125,7 @@ row-is header left entries row none =
       counted = third.0;
     }
 
--- the words of a row with which nothing is wrong
+-- the words of a row without fault
 pub row-words-are : (header : Header) (left entries : ℕ) (words : List (List ℕ)) → row_words_cause header left entries words ≡ None
     → (words ≡ codes "s" ∷ row_words (row_of_words words)) × IsGoodRow header left entries (row_of_words words)
 row-words-are header left entries words none =

@@ -18,7 +18,7 @@ pub fn read_tables_were_written()
     ensures stored { (bytes : List ℕ) (reading : Reading) → read_table bytes ≡ Ok reading → IsStored reading.table }
 {}
 
-/// The text of a stored table does not begin with the text of another.
+/// The text of a stored table does not begin with the text of another stored table.
 pub fn table_texts_are_no_prefixes()
     ensures table { (a b : Table) (rest : List ℕ) → IsStored a → IsStored b → text_of_table a ≡ text_of_table b ++ rest → a ≡ b }
     ensures rest { (a b : Table) (rest : List ℕ) → IsStored a → IsStored b → text_of_table a ≡ text_of_table b ++ rest → rest ≡ [] }
