@@ -27,7 +27,7 @@ all-map (d ∷ ds) below =
     let rest = all-map ds below.1 in
     grind (arith, nat_tests, rest)
 
--- what the bytes of a number's digits say
+-- the bytes are digits, at least one, that are read as the number n
 pub record IsText (n : ℕ) (bytes : List ℕ) : Type 0 where
   pub digits : list_all is_digit bytes ≡ true
   pub some : 0 < length bytes

@@ -110,7 +110,7 @@ no-point b is = grind (arith, nat_tests)
 both-lack : (p : ℕ → Bool) (xs ys : List ℕ) (y : ℕ) → lacks p xs ≡ true → not (p y) ≡ true → lacks p ys ≡ true → lacks p (xs ++ y ∷ ys) ≡ true
 both-lack p xs ys y first mid last = list_all-append (λ b. not (p b)) xs (y ∷ ys) ∙ and_from _ _ first (and_from _ _ mid last)
 
--- with no exponent and no slash
+-- a word without an exponent: its decimal part is these bytes, and the tens below it are the digits after the point
 pub record HasNoExponent (word bytes : List ℕ) : Type 0 where
   pub part : decimal_part word ≡ bytes
   pub above : tens_above word ≡ 0

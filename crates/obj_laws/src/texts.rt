@@ -5,7 +5,7 @@ ghost use Rattle.subdiv_model.specs.ObjFault.{is_of_reading};
 ghost use Rattle.subdiv_model.specs.ObjMesh.{has_faces_over_points, has_corners_over_texture, has_creases_over_points, has_corner_tags_over_points, has_holes_over_faces};
 ghost use Rattle.subdiv_model.specs.ReadObj.{read_obj_fault, read_obj_mesh};
 
-/// Reading a text reports one of ten causes, and never a cause of a frame line.
+/// Reading a text reports one of ten causes. The other three causes are those of frame lines only.
 pub fn reading_gives_ten_causes()
     ensures { (text : List ℕ) (least : ℕ) → IfSome (read_obj_fault text least) (λ fault. IsTrue (is_of_reading fault.cause)) }
 {}
