@@ -4,17 +4,18 @@ use Rattle.std.proofs.lemmas.Bool.Decides.{nat_tests}
 use Rattle.subdiv_model.specs.Leaf.{in_child, has_pair}
 use Rattle.leaf_laws.specs.Paths.{is_on_border}
 
--- a child has the border of the quad on its own
+-- a pair on the border of the quad is on the border of each child that has it
 pub border-child : (grid c s t : ℕ) → s ≤ grid → t ≤ grid → has_pair grid (s, t) c ≡ true → is_on_border grid (s, t) ≡ true → is_on_border grid (in_child grid (s, t) c) ≡ true
 border-child grid zero s t h k is on = grind (arith, nat_tests)
 border-child grid (suc zero) s t h k is on = grind (arith, nat_tests)
 border-child grid (suc (suc zero)) s t h k is on = grind (arith, nat_tests)
 border-child grid (suc (suc (suc c))) s t h k is on = grind (arith, nat_tests)
 
--- a pair that two children have is on the border of each
+-- the pair is on one of the two lines between the children
 abbrev is_middle : ℕ → ℕ → ℕ → Bool
 is_middle grid s t = nat_eq (2 * s) grid || nat_eq (2 * t) grid
 
+-- a pair on a line between the children is on the border of each child that has it
 middle-child : (grid c s t : ℕ) → s ≤ grid → t ≤ grid → has_pair grid (s, t) c ≡ true → is_middle grid s t ≡ true → is_on_border grid (in_child grid (s, t) c) ≡ true
 middle-child grid zero s t h k is on = grind (arith, nat_tests)
 middle-child grid (suc zero) s t h k is on = grind (arith, nat_tests)

@@ -25,7 +25,7 @@ corner-first grid level at is = go (is_quad_at level at) refl
         record { rest = first.rest; begin = rw e first.kept; inside = record { s = rw e within.0; t = rw e within.1 } }
     go false e = record { rest = []; begin = rw e refl; inside = record { s = rw e is.s; t = rw e is.t } }
 
--- the leaves of a location begin with the one that is found so
+-- the leaves of a location begin with the leaf that is found level by level
 pub leaves-begin : (grid further : ℕ) (base : Level) (meeting : Meeting) (at : Location) → IsInGrid grid at
     → (rest : List Location) × (leaves_within grid further base meeting at ≡ first_leaf grid further base meeting at ∷ rest)
 leaves-begin grid zero base meeting at is = ([], refl)

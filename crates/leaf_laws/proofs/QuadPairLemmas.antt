@@ -1,4 +1,4 @@
--- A child has the pairs of the quad that its own pairs lie at.
+-- A child of a quad has the pairs of the quad at which pairs of the child lie.
 use Rattle.std.proofs.Common.{◌≡◌, ℕ, zero, suc, ◌-◌, ◌*◌, ◌≤◌, true, ◌&&◌, nat_le, arith, refl, ap, ◌∙◌}
 use Rattle.std.proofs.lemmas.Bool.{and_from, le-leb}
 use Rattle.subdiv_model.specs.Leaf.{in_quad, in_child, has_pair}

@@ -12,7 +12,7 @@ pub record IsInGrid (grid : ℕ) (at : Location) : Type 0 where
   pub s : at.s ≤ grid
   pub t : at.t ≤ grid
 
--- a pair of the child of a corner that lies at the pair (s, t) of the quad
+-- a pair of the child of corner c that lies at the pair (s, t) of the quad
 pub record ChildPair (grid c s t : ℕ) : Type 0 where
   pub pair : ℕ × ℕ
   pub along : pair.0 ≤ grid

@@ -17,7 +17,7 @@ IsLeafOn grid (suc further) base meeting at (c ∷ path) leaf =
     × (is_among (corners_with grid (refined_level base at.level) at) c ≡ true)
     × IsLeafOn grid further base meeting (child_at grid (refined_level base at.level) at c) path leaf
 
--- two paths that lead from a location to leaves
+-- two leaves that a location has, each with a path that leads to it
 pub record TwoLeaves (grid further : ℕ) (base : Level) (meeting : Meeting) (at : Location) : Type 0 where
   pub path : List ℕ
   pub leaf : Location
@@ -46,6 +46,6 @@ is_on_border grid pair = nat_eq pair.0 0 || nat_eq pair.0 grid || nat_eq pair.1 
 abbrev pub IsOnBorder : ℕ → Location → Type 0
 IsOnBorder grid at = is_on_border grid (at.s, at.t) ≡ true
 
--- of these leaves each has the location on its border
+-- both leaves have the location on their border
 abbrev pub ShareBorders : {grid further : ℕ} {base : Level} {meeting : Meeting} {at : Location} → TwoLeaves grid further base meeting at → Type 0
 ShareBorders {grid} two = IsOnBorder grid two.leaf × IsOnBorder grid two.other

@@ -18,7 +18,7 @@ pub fn leaves_have_the_least_paths()
         → IsLeastLeaf grid depth base meeting at (leaf_of grid depth base meeting at) }
 {}
 
-/// If two leaves on different paths contain a location, the location is on the border of both.
+/// If leaves on two different paths contain a location, the location is on the border of both leaves.
 pub fn leaves_share_only_borders()
     ensures { (grid further : ℕ) (base : Level) (meeting : Meeting) (at : Location) (two : TwoLeaves grid further base meeting at) → IsInGrid grid at → two.path ≢ two.other_path → ShareBorders two }
 {}
