@@ -1,4 +1,4 @@
--- What the masks of a sparse level make of the points of the next one is what the uniform points have.
+-- The masks of a sparse level give the points of the next sparse level what the uniform points have.
 use Rattle.std.proofs.Common.{◌≡◌, ℕ, suc, ◌<◌, pos, ℤ, true, List, [], length, map, get_or, arith, ap, sym, ◌∙◌, subst}
 use Rattle.std.specs.List.{list_any}
 use Rattle.std.proofs.lemmas.Bool.{ltb-true}
@@ -52,7 +52,7 @@ module _ (kept : Kept) where
   }
 
   module _ (by : AgreeingTest kept) where
-    -- a point of the next level has its mask in this one
+    -- the sparse level has all sources of the mask of a point of the next sparse level
     next-point : (n : ℕ) → is_among (next_points_of by) n ≡ true → HasNextPoint (part_of kept) n
     next-point n among =
         let s = selection kept by in
@@ -61,7 +61,7 @@ module _ (kept : Kept) where
         let all = subst (λ w. IsWholeAt s.numbers s.whole.polygons (s.name w)) (sym (begins-at s at.place at.is)) (s.has_all (vertex_at s.part.polygons at.place) at.on) in
         child-points (part_of kept) over-points (record { number = number; has_all = all }) n at.corner
 
-    -- lists that agree at such points have the same items there
+    -- lists that agree at the points of the next sparse level have the same items there
     items-same : {X : Type 0} (here there : List X) (d : X) → ((x : NextPoint (part_of kept)) → get_or here (number_of x) d ≡ get_or there (name_next (part_of kept) (number_of x)) d) → items_at (next_points_of by) d here ≡ at_next_points kept d there
     items-same here there d agree =
         let points = next_points_of by in
@@ -94,7 +94,7 @@ module _ (kept : Kept) where
         let known = known_at (whole_value (pos 0)) (refined_values kept.base scheme (control_values numbers) kept.sparse.depth) in
         items-same (child_values kept.sparse.level scheme known.here) (refined_values kept.base scheme (control_values numbers) (suc kept.sparse.depth)) (whole_value (pos 0)) (λ x. next-values (part_of kept) over-points scheme x known)
 
-    -- the weight between two rules overflows alike
+    -- at a point with all its faces the weight of a transition overflows in both levels or in neither
     weight-alike : (scheme : Scheme) (w : ℕ) → is_corner kept.sparse.level.polygons w ≡ true → IsWholeAt kept.sparse.numbers (refined_level kept.base kept.sparse.depth).polygons ((part_of kept).name w) → transition_overflows_at kept.sparse.level scheme w ≡ transition_overflows_at (refined_level kept.base kept.sparse.depth) scheme ((part_of kept).name w)
     weight-alike scheme w there all = same-transition (part_of kept).name kept.sparse.numbers kept.sparse.level (refined_level kept.base kept.sparse.depth) kept.is.part w there all scheme
 

@@ -5,8 +5,8 @@ ghost use Rattle.subdiv_model.specs.Mask.{Scheme};
 ghost use Rattle.sparse_laws.specs.Laws.{Kept, AgreeingTest, chosen_by};
 ghost use Rattle.sparse_values.specs.Uniform.{next_point, next_points_of, sparse_denominators, sparse_mask, sparse_supports, sparse_values, uniform_denominators, uniform_mask, uniform_supports, uniform_values, uniform_weighs_over, WeighsOver};
 
-/// The mask of each point of the next sparse level is that of the uniform point. It has the same weights in the same order, and
-/// the sources of the uniform level.
+/// The mask of each point of the next sparse level has the weights of the mask of the uniform point, in the same order. Its sources
+/// are those of the uniform level.
 pub fn masks_are_uniform()
     ensures { (kept : Kept) (by : AgreeingTest kept) (scheme : Scheme) (i : ℕ) → i < length (next_points_of by) → uniform_mask kept scheme (next_point by i) ≡ sparse_mask kept scheme (next_point by i) }
 {}
@@ -21,13 +21,13 @@ pub fn supports_are_uniform()
     ensures { (kept : Kept) (by : AgreeingTest kept) (scheme : Scheme) → sparse_supports by scheme ≡ uniform_supports kept scheme }
 {}
 
-/// Each point of the next sparse level has the value of the uniform point, for all control points.
+/// Each point of the next sparse level has the value of the uniform point, for all control numbers.
 pub fn values_are_uniform()
     ensures { (kept : Kept) (by : AgreeingTest kept) (scheme : Scheme) (numbers : List ℤ) → sparse_values by scheme numbers ≡ uniform_values kept scheme numbers }
 {}
 
-/// The weight of a transition overflows at a vertex of a selected face exactly where it overflows at a uniform point that has a
-/// present child.
+/// The weight of a transition overflows at some vertex of a selected face exactly if it does at a uniform point with a present
+/// child.
 pub fn transitions_are_uniform()
     ensures here { (kept : Kept) (by : AgreeingTest kept) (scheme : Scheme) (v : ℕ) → WeighsOver kept.sparse.level (chosen_by by) scheme v → IsTrue (uniform_weighs_over kept scheme) }
     ensures there { (kept : Kept) (by : AgreeingTest kept) (scheme : Scheme) → IsTrue (uniform_weighs_over kept scheme) → (v : ℕ) × WeighsOver kept.sparse.level (chosen_by by) scheme v }
