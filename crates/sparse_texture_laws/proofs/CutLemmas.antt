@@ -1,4 +1,4 @@
--- The next level of a cut level is a cut of the next level.
+-- The next level of a cut level is a cut of the next level of the base.
 use Rattle.std.proofs.Common.{◌≡◌, ℕ, zero, suc, ◌+◌, ◌-◌, ◌<◌, ◌≤◌, true, false, nat_lt, List, [], ◌∷◌, ◌++◌, length, map, get_or, arith, refl, ap, sym, ◌∙◌, if◌then◌else◌}
 use Rattle.std.specs.List.{list_all, list_any}
 use Rattle.std.proofs.lemmas.Bool.{and_parts, lt-ltb, le-ltb}
@@ -109,7 +109,7 @@ module _ (name : ℕ → ℕ) (base cut : Level) where
       ∙ ap (λ l. l ++ map (map (next_name name base cut)) (children_from cut.point_count cut.polygons (place + 1) some)) (face-named place polygon (omega arith) parts.0)
       ∙ ap (λ l. child_faces base.point_count base.polygons place (map name polygon) ++ l) (children-named (place + 1) some (omega arith) parts.1)
 
--- the next level of a cut level is a cut of the next level
+-- the next level of a cut level is a cut of the next level of the base
 pub cut-next : (name : ℕ → ℕ) (base cut : Level) → IsCutOf name base cut → IsCutOf (next_name name base cut) (child_level base) (child_level cut)
 cut-next name base cut is = record {
   over = child-over-points cut.point_count cut.polygons is.over;

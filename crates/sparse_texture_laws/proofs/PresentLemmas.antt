@@ -1,4 +1,4 @@
--- Which faces of a cut level are present where the selected faces of the other are selected.
+-- The present faces of a cut level in which the selected faces of the base are selected.
 use Rattle.std.proofs.Common.{◌≡◌, ℕ, zero, suc, ◌<◌, ◌≤◌, Bool, true, false, nat_eq, nat_lt, List, [], ◌∷◌, length, map, get_or, arith, refl, ap, sym, ◌∙◌}
 use Rattle.std.specs.List.{range_with_len}
 use Rattle.std.proofs.lemmas.Bool.{ltb-true, eqb-true, eq-eqb, or_right}
@@ -26,7 +26,7 @@ place-within test xs n h =
     let there = kept-among (λ i. test (get_or xs i 0)) all n (ap (λ ns. is_among ns n) (sym (as-filter test xs)) ∙ h) in
     ltb-true n (length xs) (among-all (λ i. nat_lt i (length xs)) all n there (range-below (length xs)))
 
--- a polygon by names
+-- a polygon under the names of its corners
 polygon-named : (name : ℕ → ℕ) (polygons : List Polygon) (f : ℕ) → polygon_at (map (map name) polygons) f ≡ map name (polygon_at polygons f)
 polygon-named name [] f = refl
 polygon-named name (polygon ∷ polygons) zero = refl
@@ -59,12 +59,12 @@ places-named name polygons others faces n e h =
     ∙ ap (is_on others faces) (get_or-map name corners n 0 0 inside)
     ∙ on-named name polygons others faces (get_or corners n 0) e on
 
--- the children of selected faces of the other level are present in the cut level
+-- the children of selected faces of the base are present in the cut level
 pub inner-there : (base cut : Level) → HaveSameFaces base cut → (meeting : Meeting) (depth k n : ℕ) → k ≤ depth → is_among (inner base meeting k) n ≡ true → is_among (present cut (selected_to base meeting depth) k) n ≡ true
 inner-there base cut same meeting depth k n h there =
     inner-present cut (selected_to base meeting depth) k n (ap (λ ns. is_among ns n) (cut-inner base cut same meeting depth k h) ∙ there)
 
--- a face present in the cut level is present in the other
+-- a face present in the cut level is present in the base
 pub present-there : (name : ℕ → ℕ) (base cut : Level) → IsCutOf name base cut → (meeting : Meeting) (depth k n : ℕ) → k ≤ depth → is_among (present cut (selected_to base meeting depth) k) n ≡ true → is_among (present base meeting k) n ≡ true
 present-there name base cut is meeting depth zero n h there = ap (λ count. is_among (range_with_len 0 count) n) (sym (count-same base cut (cut-faces name base cut is))) ∙ there
 present-there name base cut is meeting depth (suc k) n h there =

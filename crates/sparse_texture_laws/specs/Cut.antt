@@ -11,8 +11,8 @@ pub record HaveSameFaces (base cut : Level) : Type 0 where
   pub sizes : map length cut.polygons ≡ map length base.polygons
   pub holes : cut.holes ≡ base.holes
 
--- Each point of the cut level represents a point of the base, its name. The faces of the base are those of the cut level under
--- these names. So corners that share a point in the cut level share one in the base.
+-- Each point of the cut level has a name, the point of the base that it represents. The faces of the base are those of the cut
+-- level under these names. So corners that share a point in the cut level share one in the base.
 pub record IsCutOf (name : ℕ → ℕ) (base cut : Level) : Type 0 where
   pub over : IsTrue (is_over cut.point_count cut.polygons)
   pub faces : map (map name) cut.polygons ≡ base.polygons
@@ -28,7 +28,7 @@ pub record CutFace : Type 0 where
   pub within : steps ≤ depth
   pub face : ℕ
 
--- the parent of the face is selected
+-- the face is an inner face of the base: the parent of the face is selected, or it is a face of level 0
 abbrev pub is_inner : CutFace → Bool
 is_inner at = is_among (inner at.base at.meeting at.steps) at.face
 

@@ -16,7 +16,8 @@ pub fn cut_meshes_are_cuts_of_the_mesh()
     ensures faces { (mode : SeamMode) (mesh : ObjMesh) → HaveSameFaces (base_level mesh) (cut_level mode mesh) }
 {}
 
-/// If a level is a cut of another, so are their levels after equally many steps, and they have the same faces.
+/// If a level is a cut of another, it has the same faces: as many, each with as many corners, and the same holes. Both hold again
+/// for their levels after equally many steps.
 pub fn cuts_refine_to_cuts()
     ensures faces { (name : ℕ → ℕ) (base cut : Level) → IsCutOf name base cut → HaveSameFaces base cut }
     ensures same { (base cut : Level) (k : ℕ) → HaveSameFaces base cut → HaveSameFaces (refined_level base k) (refined_level cut k) }
@@ -24,8 +25,8 @@ pub fn cuts_refine_to_cuts()
         → (names : ℕ → ℕ) × IsCutOf names (refined_level base k) (refined_level cut k) }
 {}
 
-/// Let a cut use the selected faces of a level. Then each child of a selected face is present in the next level of the cut. Each
-/// face present in the cut is present in the level too.
+/// Let a cut use the selected faces of a level. Then each inner face of the level is present in the cut. Each face that is present
+/// in the cut is present in the level.
 pub fn present_faces_of_cuts_are_present()
     ensures inner { (at : CutFace) → HaveSameFaces at.base at.cut → IsTrue (is_inner at) → IsTrue (is_present_in_cut at) }
     ensures present { (name : ℕ → ℕ) (at : CutFace) → IsCutOf name at.base at.cut → IsTrue (is_present_in_cut at) → IsTrue (is_present at) }

@@ -8,12 +8,13 @@ ghost use Rattle.subdiv_model.specs.SparseTexture.{selected_to};
 ghost use Rattle.sparse_texture_laws.specs.Selection.{IsSelection, is_chosen_in, selected_numbers};
 ghost use Rattle.sparse_texture_laws.specs.Cut.{HaveSameFaces};
 
-/// The faces that a predicate selects, level by level, are a selection of each level with the same faces.
+/// The faces that a predicate selects, level by level, are a selection in each level with the same faces.
 pub fn selected_faces_are_a_selection()
     ensures { (base cut : Level) (meeting : Meeting) (depth : ℕ) → HaveSameFaces base cut → IsSelection cut depth (selected_to base meeting depth) }
 {}
 
-/// A level with the same faces, selected by number, has the same selected faces and the same inner faces.
+/// Let the selected faces of a level be selected by number in a level with the same faces. Then both levels have the same selected
+/// faces and the same inner faces.
 pub fn faces_are_selected_by_their_numbers()
     ensures selected { (base cut : Level) (meeting : Meeting) (depth k : ℕ) → HaveSameFaces base cut → k < depth
         → selected cut (selected_to base meeting depth) k ≡ selected base meeting k }
