@@ -197,7 +197,7 @@ module _ (name : ℕ → ℕ) (faces : List ℕ) (part whole : Level) (is : IsPa
           go (inr (inr (inl e))) = absurd (omega (arith, inside, e, same))
           go (inr (inr (inr e))) = along (c.u, v) c.before e
 
-    -- a point that is whole stays so
+    -- a point that is whole is whole in the next level
     pub whole-old : (p : ℕ) → is_corner part.polygons p ≡ true → IsWholeAt faces whole.polygons (name p) → IsWholeAt (children_in whole.polygons faces) (child_polygons whole.point_count whole.polygons) (name p)
     whole-old p h all = whole-next (name p) (λ g v quad c k. among-corner g v (name p) quad c k (name-below p h) all)
 
@@ -230,7 +230,7 @@ next-whole part over x = go x
         subst (λ n. IsWholeAt (children_in part.whole.polygons part.faces) (child_polygons part.whole.point_count part.whole.polygons) n) (sym (name-edge part.name part.faces part.level part.whole part.is_part.polygons along.edge along.is_edge))
         (whole-edge part.name part.faces part.level part.whole part.is_part.polygons over.whole along.edge along.is_edge along.has_all)
 
--- the corners of a child face at a whole point are such points
+-- the corners of a child face at a whole point are points of which the part has all sources
 pub child-points : (part : LevelPart) → IsOverPoints part → (child : WholeChild part) (x : ℕ) → has_corner x (corners_of child) ≡ true → HasNextPoint part x
 child-points part over child x h =
     let kids = child_polygons part.level.point_count part.level.polygons in

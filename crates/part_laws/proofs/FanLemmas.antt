@@ -34,7 +34,7 @@ side-from name s (t ∷ sides) h = go (same_side s (renamed name t)) refl (λ mo
         let found = behind (rw e at h) in
         (found.0, grind (arith, nat_tests, found.1), found.2, found.3)
 
--- what each number of a list passes, all pass
+-- a test that each number of a list passes holds for all
 all-among : (test : ℕ → Bool) (ns : List ℕ) → ((n : ℕ) → is_among ns n ≡ true → test n ≡ true) → list_all test ns ≡ true
 all-among test ns each =
     list_all-from_AllPass test ns (λ k d h. each (get_or ns k d) (list_any_at (nat_eq (get_or ns k d)) ns k d h (eq-eqb (get_or ns k d) (get_or ns k d) refl)))

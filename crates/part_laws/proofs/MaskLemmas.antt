@@ -198,7 +198,7 @@ module _ (name : ℕ → ℕ) (faces : List ℕ) (part whole : Level) (is : IsLe
       ∙ (vertex-made p there).in_whole
   same-vertex-mask Linear p there all = (corner-in name faces part.polygons whole.polygons is.polygons p there).in_whole
 
-  -- these masks name only corners and faces of the part
+  -- the masks are the same, and name only corners and faces of the part
   abbrev pub IsLevelMaskIn : Mask → Mask → Type 0
   IsLevelMaskIn mask other = IsMaskIn name faces (λ p. is_corner part.polygons p) (λ k. nat_lt k (length part.polygons)) mask other
 

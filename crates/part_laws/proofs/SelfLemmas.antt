@@ -64,7 +64,7 @@ among-at (m ∷ ns) n h = go (nat_eq n m) refl (λ more. among-at ns n more)
     go true e behind = (0, omega arith, eqb-true n m e)
     go false e behind = let found = behind (rw e at h) in (suc found.0, omega (arith, found.1), found.2)
 
--- which has all faces at a point where both have
+-- a part of a part has all faces at a point where both parts have all
 pub joined-whole : (other : ℕ → ℕ) (faces others : List ℕ) (middle whole : List Polygon) → IsPart other others middle whole → (v : ℕ) → is_corner middle v ≡ true → IsWholeAt faces middle v → IsWholeAt others whole (other v) → IsWholeAt (map (face_in others) faces) whole (other v)
 joined-whole other faces others middle whole is v there all all_others f h =
     let found = among-at others f (all_others f h) in

@@ -103,7 +103,7 @@ module _ (name : ℕ → ℕ) (faces : List ℕ) (point face : ℕ → Bool) whe
         all-mapped own (λ s. weigh (weight_in terms s) s) (each_once sources)
         ∙ all-once same_source (is_own point face) sources (all-mapped (is_own point face) (λ (t : Term). t.source) terms ∙ all)
 
-    -- a mask of such terms
+    -- a mask whose terms name only own sources
     pub mask-of-terms : (terms others : List Term) (q : ℕ) → AreTermsIn terms others → IsMaskIn (mask_of terms q) (mask_of others q)
     mask-of-terms terms others q h = record {
       own_sources = all-filtered (λ t. nat_lt 0 t.weight) own (joined_terms terms) (own-joined terms h.own_sources);

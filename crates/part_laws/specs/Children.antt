@@ -59,7 +59,7 @@ pub record IsOverPoints (part : LevelPart) : Type 0 where
 abbrev pub name_next : LevelPart → ℕ → ℕ
 name_next part n = child_name part.name part.faces part.level part.whole n
 
--- the numbers of the faces of the next level in that of the whole
+-- the numbers that the faces of the next level of the part have in the next level of the whole
 abbrev pub faces_next : LevelPart → List ℕ
 faces_next part = children_in part.whole.polygons part.faces
 
@@ -67,17 +67,17 @@ faces_next part = children_in part.whole.polygons part.faces
 abbrev pub child_in_whole : (part : LevelPart) → Corner part.level.polygons → ℕ
 child_in_whole part corner = first_child_place part.whole (face_in part.faces corner.face) + corner.place
 
--- a level that is part of the next level
+-- a level that is part of the next level of the part
 pub record NextPart (part : LevelPart) : Type 0 where
   pub name : ℕ → ℕ
   pub faces : List ℕ
   pub level : Level
   pub is_next : IsNextPart part.name part.faces part.level part.whole name faces level
 
--- the names of its points in the next level of the whole
+-- the names of the points of a next part in the next level of the whole
 abbrev pub name_in_whole : {part : LevelPart} → NextPart part → ℕ → ℕ
 name_in_whole {part} next n = name_next part (next.name n)
 
--- the numbers of its faces in the next level of the whole
+-- the numbers of the faces of a next part in the next level of the whole
 abbrev pub faces_in_whole : {part : LevelPart} → NextPart part → List ℕ
 faces_in_whole {part} next = map (face_in (faces_next part)) next.faces

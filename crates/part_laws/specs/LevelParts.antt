@@ -20,7 +20,7 @@ pub record IsLevelPart (name : ℕ → ℕ) (faces : List ℕ) (part whole : Lev
       → edge_sharpness_of part edge ≡ edge_sharpness_of whole (renamed name edge)
   pub vertices : (p : ℕ) → IsTrue (is_corner part.polygons p) → vertex_sharpness_of part p ≡ vertex_sharpness_of whole (name p)
 
--- the weight between the rules of a point in its level and in the next
+-- the weight of the transition of a point between its level and the next
 abbrev pub weight_at : Level → ℕ → ℕ × ℕ
 weight_at level v =
     let vertex = vertex_sharpness_of level v in

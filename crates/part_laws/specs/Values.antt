@@ -19,13 +19,13 @@ pub data NextPoint (part : LevelPart) : Type 0 where
   NewOfFace : (k : ℕ) → k < length part.level.polygons → NextPoint part
   NewOfEdge : WholeEdge (polygons_of part) → NextPoint part
 
--- the number of the point
+-- the number of a next point in the next level of the part
 abbrev pub number_of : {part : LevelPart} → NextPoint part → ℕ
 number_of {part} (Old at) = at.point
 number_of {part} (NewOfFace k inside) = face_point_of part.level k
 number_of {part} (NewOfEdge along) = edge_point_of part.level along.edge
 
--- a point of this number has its mask in the part
+-- the point of this number in the next level of the part is one whose mask the part has
 abbrev pub HasNextPoint : LevelPart → ℕ → Type 0
 HasNextPoint part n = (x : NextPoint part) × (number_of x ≡ n)
 

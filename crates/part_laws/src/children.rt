@@ -43,7 +43,8 @@ pub fn corners_of_whole_children_are_next_points()
 
 /// A part of the next level of a part is a part of the next level of the whole, with its marks and its sharpness.
 ///
-/// Under the method `normal` every part is. Under `chaikin` each face must be a child at a point where the part has all faces.
+/// Under the method `normal` this holds of every part. Under `chaikin` each of its faces must be a child at a point where the first
+/// part has all faces.
 pub fn parts_of_next_levels_are_parts()
     ensures { (part : LevelPart) (next : NextPart part) → IsOverPoints part
         → IsLevelPart (name_in_whole next) (faces_in_whole next) next.level (child_level part.whole) }

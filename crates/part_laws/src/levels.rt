@@ -20,8 +20,8 @@ pub fn rings_at_whole_points_are_the_same()
         → child_ring part.level.method (ring_at part.level at.point) ≡ child_ring part.whole.method (ring_at part.whole (name_of at)) }
 {}
 
-/// If a part has all faces at a point, the point has the same rules and the same weight as in the whole. It is interior in both
-/// levels or in neither.
+/// If a part has all faces at a point, the point has the rules and the weight of transition that it has in the whole. It is
+/// interior in both levels or in neither.
 pub fn rules_at_whole_points_are_the_same()
     ensures now { (part : LevelPart) (at : WholePointOf part) → rule_at part.level at.point ≡ rule_at part.whole (name_of at) }
     ensures next { (part : LevelPart) (at : WholePointOf part)
@@ -32,13 +32,14 @@ pub fn rules_at_whole_points_are_the_same()
         → is_interior part.level at.point ≡ is_interior part.whole (name_of at) }
 {}
 
-/// If a part has all faces at a point, the half of an edge has the same sharpness as in the whole, by both methods.
+/// If a part has all faces at a point, the half of an edge there is as sharp as in the whole, by both methods.
 pub fn halves_at_whole_points_are_the_same()
     ensures { (part : LevelPart) (at : WholePointOf part) (along : EdgeOf part)
         → half_sharpness part.level along.edge at.point ≡ half_sharpness part.whole (renamed part.name along.edge) (name_of at) }
 {}
 
-/// If a part has all faces at a point, the rules overflow in the part exactly where they overflow in the whole.
+/// If a part has all faces at a point, halves of edges overflow there exactly if they do in the whole. So does the weight of the
+/// transition.
 pub fn overflows_at_whole_points_are_the_same()
     ensures chaikin { (part : LevelPart) (at : WholePointOf part)
         → chaikin_overflows_at part.level at.point ≡ chaikin_overflows_at part.whole (name_of at) }

@@ -8,7 +8,7 @@ ghost use Rattle.part_laws.specs.Parts.{IsWholeAt, IsWholeAlong, renamed, face_i
 ghost use Rattle.part_laws.specs.Children.{as_listed};
 ghost use Rattle.part_laws.specs.Laws.{Part, PartFaces, WholePoint, WholeEdge, other_ends_at, name_of, edge_in};
 
-/// If a part has all faces at a point, they are the faces of the whole at its name, in the same order.
+/// If a part has all faces at a point, these are the faces at its name in the whole, in the same order.
 pub fn faces_at_whole_points_are_the_same()
     ensures { (part : Part) (at : WholePoint part)
         → map (face_in part.faces) (faces_of_point part.polygons at.point) ≡ faces_of_point part.whole (name_of at) }
@@ -24,7 +24,7 @@ pub fn edges_at_whole_points_are_the_same()
         ≡ other_ends_at part.whole (name_of at) }
 {}
 
-/// If a part has all faces along an edge, they are the faces of the whole along it. The edge is a boundary edge in both or in
+/// If a part has all faces along an edge, these are the faces of the whole along it. The edge is a boundary edge in both or in
 /// neither, and both list it in the same direction.
 pub fn faces_along_whole_edges_are_the_same()
     ensures faces { (part : Part) (along : WholeEdge part)
@@ -35,8 +35,8 @@ pub fn faces_along_whole_edges_are_the_same()
         ≡ renamed part.name (as_listed part.polygons along.edge) }
 {}
 
-/// If a part has all faces at a point, they form one fan exactly where the faces of the whole do. Faces are a path around the
-/// point in the part exactly where they are in the whole.
+/// If a part has all faces at a point, they form one fan exactly if they form one in the whole. Faces are a path around the point
+/// in the part exactly if they are one in the whole.
 pub fn fans_at_whole_points_are_the_same()
     ensures fan { (part : Part) (at : WholePoint part) → HasOneFan part.polygons at.point ↔ HasOneFan part.whole (name_of at) }
     ensures path { (part : Part) (at : WholePoint part) (some : PartFaces part)
