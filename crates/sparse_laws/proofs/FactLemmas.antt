@@ -70,7 +70,7 @@ end-named name p edge h = go (nat_eq p edge.0) refl
 start-end : (s : ℕ × ℕ) → has_end s.0 s ≡ true
 start-end s = let here = eq-eqb s.0 s.0 refl in rw here refl
 
--- whether a point is regular: at the boundary or not, smooth or not, by its numbers of edges and faces and its sharpness
+-- whether a point is regular, by its boundary, its numbers of edges and faces, and its sharpness
 abbrev regular_by : Bool → Bool → ℕ → ℕ → Sharpness → Bool
 regular_by boundary smooth edges faces sharpness =
     (not boundary && nat_eq edges 4 && smooth) || (boundary && nat_eq faces 2 && smooth) || (boundary && nat_eq faces 1 && is_infinite sharpness)

@@ -8,7 +8,7 @@ use Rattle.part_laws.specs.LevelParts.{IsLevelPart}
 use Rattle.part_laws.proofs.ListLemmas.{map-agree}
 use Rattle.part_laws.proofs.PartLemmas.{own-corners, edge-ends}
 
--- polygons that are a part by one name of their corners are one by another
+-- polygons that are a part under one name are one under each name that agrees at all corners
 polygons-renamed : (f g : ℕ → ℕ) (faces : List ℕ) (part whole : List Polygon) → ((p : ℕ) → IsTrue (is_corner part p) → f p ≡ g p) → IsPart f faces part whole → IsPart g faces part whole
 polygons-renamed f g faces part whole agree is = record {
   ascending = is.ascending;

@@ -1,4 +1,4 @@
--- The vertices on selected faces are the points of the uniform level that have a present child, and halves overflow there alike.
+-- The vertices on selected faces are the points of the uniform level with a present child. Halves overflow at both or at neither.
 use Rattle.std.proofs.Common.{◌≡◌, ℕ, suc, ◌<◌, Bool, true, false, not, ◌&&◌, nat_eq, nat_lt, List, [], ◌∷◌, length, map, arith, refl, ap, sym, ◌∙◌, inl, inr}
 use Rattle.std.specs.List.{filter, list_any, list_all, range_with_len}
 use Rattle.std.proofs.lemmas.Bool.{and_parts, and_from, eqb-true, lt-ltb, ltb-true}
@@ -127,7 +127,7 @@ module _ (s : Selection) where
     pub on : is_on s.part.polygons s.some (vertex_at s.part.polygons place) ≡ true
     pub corner : has_corner n (polygon_at (kids s) (child_number s.part.polygons place)) ≡ true
 
-  -- a point of the next level is one
+  -- a present point of the next level is a corner of a child face at a vertex on a selected face
   pub child-corner : (n : ℕ) → is_among (next_points s.part s.some) n ≡ true → ChildCorner n
   child-corner n among =
       let chosen = next_places s.part.polygons s.some in
@@ -201,7 +201,7 @@ module _ (s : Selection) where
         let at = named-on n below both.0 in
         record { w = at.w; exists = at.below; on = at.on; passes = alike at.w (on-corner at.w at.on) (s.has_all at.w at.on) ∙ ap other at.named ∙ found.1 }
 
--- halves of edges overflow alike
+-- at a point with all its faces halves of edges overflow in both levels or in neither
 overflow-alike : (s : Selection) (w : ℕ) → is_corner s.part.polygons w ≡ true → IsWholeAt s.numbers s.whole.polygons (s.name w) → chaikin_overflows_at s.part w ≡ chaikin_overflows_at s.whole (s.name w)
 overflow-alike s w there all = same-chaikin s.name s.numbers s.part s.whole s.is w there all
 

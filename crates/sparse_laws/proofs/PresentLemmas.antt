@@ -31,7 +31,7 @@ range-moved : (a b n : ℕ) → map (λ c. a + c) (range_with_len b n) ≡ range
 range-moved a b zero = refl
 range-moved a b (suc n) = ap (λ l. (a + b) ∷ l) (range-moved a (b + 1) n ∙ ap (λ k. range_with_len k n) (let e : a + (b + 1) ≡ a + b + 1 = omega arith in e))
 
--- a part of a level over points, with some of its faces, which are these others of the whole; it has all faces at their vertices
+-- A part of a level over points, with some of its faces, and these faces in the whole. The part has all faces at their vertices.
 pub record Selection : Type 0 where
   pub name : ℕ → ℕ
   pub numbers : List ℕ

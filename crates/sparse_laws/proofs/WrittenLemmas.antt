@@ -51,7 +51,7 @@ level_by count faces = record { point_count = count; faces = faces }
 level-alike : (m n : ℕ) (a b : List WrittenFace) → m ≡ n → a ≡ b → level_by m a ≡ level_by n b
 level-alike m n a b one two = rw (one, two) refl
 
--- nothing is kept by a test that nothing passes
+-- a test that no item passes keeps no item
 filter-off-all : (ns : List ℕ) → filter (λ n. false) ns ≡ []
 filter-off-all [] = refl
 filter-off-all (n ∷ ns) = filter-off-all ns

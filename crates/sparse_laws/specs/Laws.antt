@@ -41,13 +41,13 @@ part_of kept = record {
   is_part = kept.is.part;
 }
 
--- a point of it has all its faces of the uniform level
+-- the sparse level has all faces of the uniform level at point p
 abbrev pub IsWholePoint : Kept → ℕ → Type 0
 IsWholePoint kept p =
     IsWholeAt kept.sparse.numbers (refined_level kept.base kept.sparse.depth).polygons
     (name_in (present_points kept.base kept.meeting kept.sparse.depth) p)
 
--- an edge of one face that ends at a complete point of it
+-- an edge of one face of the sparse level that ends at a complete point
 pub record BoundaryEdge (kept : Kept) : Type 0 where
   pub e : ℕ
   pub v : ℕ
@@ -56,7 +56,7 @@ pub record BoundaryEdge (kept : Kept) : Type 0 where
   pub complete : get_or kept.sparse.complete v false ≡ true
   pub on_boundary : is_boundary kept.sparse.level.polygons (get_or (edges_of kept.sparse.level.polygons) e (0, 0)) ≡ true
 
--- whether halves overflow at a point of the uniform level that has a present child
+-- halves of edges overflow at a point of the uniform level that has a present child
 abbrev pub uniform_halves_overflow : Kept → Bool
 uniform_halves_overflow kept =
     list_any (chaikin_overflows_at (refined_level kept.base kept.sparse.depth))

@@ -23,11 +23,11 @@ vertex_at polygons place = get_or (polygon_at polygons place.0) place.1 0
 abbrev pub next_places : List Polygon → List ℕ → List (ℕ × ℕ)
 next_places polygons selected = filter (λ place. is_on polygons selected (vertex_at polygons place)) (corner_places polygons)
 
--- the numbers of the present child faces in the whole next level
+-- the numbers of the present child faces in the next level of all faces
 abbrev pub next_children : List Polygon → List ℕ → List ℕ
 next_children polygons selected = map (child_number polygons) (next_places polygons selected)
 
--- the corners of the present child faces, by first appearance, with their numbers in the whole next level
+-- the corners of the present child faces, by first appearance, with their numbers in the next level of all faces
 abbrev pub next_points : Level → List ℕ → List ℕ
 next_points level selected = each_once_by nat_eq (corners_of (map (polygon_at (child_level level).polygons) (next_children level.polygons selected)))
 
@@ -43,7 +43,7 @@ vertices_of level n =
     else (edge_at level.polygons (n - level.point_count - length level.polygons)).0
     ∷ (edge_at level.polygons (n - level.point_count - length level.polygons)).1 ∷ []
 
--- a point of the next level has all its faces: all vertices that it is made from are on selected faces
+-- a point of the next level is complete: all vertices that it is made from are on selected faces
 abbrev pub has_all_faces : Level → List ℕ → ℕ → Bool
 has_all_faces level selected n = list_all (is_on level.polygons selected) (vertices_of level n)
 

@@ -12,7 +12,7 @@ use Rattle.sparse_laws.specs.SparseLevels.{SparseLevel}
 abbrev pub facts_in : SparseLevel → ℕ → FaceFacts
 facts_in s f = record (facts_of s.level s.depth f) { number = get_or s.numbers f 0 }
 
--- the face is inner, meets the test and is no hole
+-- the face is inner, passes the test and is no hole
 abbrev pub is_selected_in : (FaceFacts → Bool) → SparseLevel → ℕ → Bool
 is_selected_in test s f = get_or s.inner f false && (test (facts_in s f) && is_selectable (facts_in s f))
 
@@ -24,7 +24,7 @@ selected_in test s = filter (is_selected_in test s) (range_with_len 0 (length s.
 abbrev pub Agrees : (FaceFacts → Bool) → Level → Meeting → ℕ → Type 0
 Agrees test base meeting depth = get_or meeting depth [] ≡ meeting_of test base depth
 
--- the halves of edges overflow at a vertex of a selected face
+-- the halves of edges overflow at vertex v, which is on a selected face
 pub record OverflowsOn (level : Level) (selected : List ℕ) (v : ℕ) : Type 0 where
   pub exists : v < level.point_count
   pub on : is_on level.polygons selected v ≡ true

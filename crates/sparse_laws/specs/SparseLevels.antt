@@ -11,7 +11,7 @@ use Rattle.part_laws.specs.LevelParts.{IsLevelPart}
 -- some faces of a uniform level, with the numbers they have there
 pub record SparseLevel : Type 0 where
   pub level : Level
-  -- for each point, whether all its faces are in the sparse level
+  -- for each point, whether the sparse level has all its faces of the uniform level
   pub complete : List Bool
   -- for each face, its number in the uniform level
   pub numbers : List ℕ
@@ -29,7 +29,8 @@ abbrev pub AreInnerComplete : SparseLevel → Type 0
 AreInnerComplete s = (f p : ℕ) → get_or s.inner f false ≡ true → IsTrue (has_corner p (polygon_at s.level.polygons f)) → get_or s.complete p false ≡ true
 
 -- The faces are the present faces, and the points are the present points. Polygons, holes and sharpness are those of the uniform
--- level. Inner faces and complete points are those of the definitions. Each corner is one of the points.
+-- level. Inner faces and complete points are those of the definitions. Each corner of an inner face is complete, and each corner is
+-- one of the points.
 pub record IsSparse (base : Level) (meeting : Meeting) (s : SparseLevel) : Type 0 where
   pub numbers : s.numbers ≡ present base meeting s.depth
   pub points : s.level.point_count ≡ length (present_points base meeting s.depth)

@@ -17,7 +17,7 @@ kind_in s selected f =
     else if is_among selected f then SelectedFace
     else LeafFace
 
--- the corners by first appearance
+-- the corners of the faces of a level, by first appearance
 abbrev pub used_points : Level → List ℕ
 used_points level = each_once_by nat_eq (corners_of level.polygons)
 

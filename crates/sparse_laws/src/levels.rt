@@ -28,13 +28,13 @@ pub fn facts_of_inner_faces_are_the_same()
         ≡ facts_of (refined_level kept.base kept.sparse.depth) kept.sparse.depth (get_or kept.sparse.numbers at.face 0) }
 {}
 
-/// A test selects the faces that the definitions select, for each predicate that agrees with the test.
+/// A test selects the faces that the definitions select, for each predicate that agrees with the test at this level.
 pub fn selected_faces_are_the_same()
     ensures { (kept : Kept) (by : AgreeingTest kept)
         → map (face_in kept.sparse.numbers) (chosen_by by) ≡ selected kept.base kept.meeting kept.sparse.depth }
 {}
 
-/// If the boundary of level 0 is infinitely sharp, so is each edge of one face at a complete point.
+/// If the boundary of level 0 is infinitely sharp, each edge of one face at a complete point of a sparse level is.
 pub fn boundaries_at_complete_points_are_sharp()
     ensures { (kept : Kept) (edge : BoundaryEdge kept) → HasSharpBoundary kept.base → get_or kept.sparse.level.edge_sharpness edge.e Smooth ≡ Infinite }
 {}

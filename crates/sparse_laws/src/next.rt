@@ -7,7 +7,7 @@ ghost use Rattle.sparse_laws.specs.NextSparse.{next_places};
 ghost use Rattle.sparse_laws.specs.Selected.{OverflowsOn};
 ghost use Rattle.sparse_laws.specs.Laws.{Kept, AgreeingTest, NextKept, chosen_by, uniform_halves_overflow};
 
-/// The next level of a sparse level is the one of the definitions, for each predicate that agrees with the test.
+/// The next level of a sparse level is the one of the definitions, for each predicate that agrees with the test at this level.
 pub fn next_levels_are_sparse()
     ensures { (kept : Kept) (made : NextKept kept) → IsSparse kept.base kept.meeting made.next }
 {}
@@ -18,8 +18,7 @@ pub fn next_faces_are_counted()
         ≡ present_faces kept.base kept.meeting (suc kept.sparse.depth) }
 {}
 
-/// Halves overflow at a vertex of a selected face exactly where they overflow at a point of the uniform level that has a present
-/// child.
+/// Halves of edges overflow at some vertex of a selected face exactly if they do at a uniform point with a present child.
 pub fn overflows_are_the_same()
     ensures here { (kept : Kept) (by : AgreeingTest kept) (v : ℕ) → OverflowsOn kept.sparse.level (chosen_by by) v → IsTrue (uniform_halves_overflow kept) }
     ensures there { (kept : Kept) (by : AgreeingTest kept) → IsTrue (uniform_halves_overflow kept) → (v : ℕ) × OverflowsOn kept.sparse.level (chosen_by by) v }

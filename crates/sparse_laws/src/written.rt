@@ -5,7 +5,7 @@ ghost use Rattle.subdiv_model.specs.SparseText.{written_level};
 ghost use Rattle.sparse_laws.specs.Written.{written_here};
 ghost use Rattle.sparse_laws.specs.Laws.{Kept, AgreeingTest, chosen_by};
 
-/// The output of a sparse level is the output of the definitions.
+/// The output of a sparse level is the output of the definitions, also of the last level, where the predicate has no faces.
 pub fn written_levels_are_the_same()
     ensures refined { (kept : Kept) (by : AgreeingTest kept)
         → written_here kept.sparse (chosen_by by) ≡ written_level kept.base kept.meeting kept.sparse.depth }
