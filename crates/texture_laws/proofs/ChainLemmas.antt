@@ -14,7 +14,7 @@ IsLinked R [] = Unit {0}
 IsLinked R (f ∷ []) = Unit {0}
 IsLinked R (f ∷ (g ∷ rest)) = R f g × IsLinked R (g ∷ rest)
 
--- what goes on from each to the next holds of all where it holds of the first
+-- a property that passes from each item to the next holds of all if it holds of the first
 pub linked-forth : (R : ℕ → ℕ → Type 0) (S : ℕ → Type 0) → ((f g : ℕ) → R f g → S f → S g) → (f n : ℕ) (rest : List ℕ) → IsLinked R (f ∷ rest) → S f → is_among (f ∷ rest) n ≡ true → S n
 linked-forth R S forth f n [] linked first h = here (or_cases (nat_eq n f) false h)
   where
@@ -40,7 +40,7 @@ linked-back R S back f n (g ∷ rest) linked one h = here (or_cases (nat_eq n f)
     here (inl same) behind = subst S (eqb-true n f same) one
     here (inr more) behind = back f g linked.0 (behind more)
 
--- what goes both ways holds of all or of none
+-- a property that passes in both directions holds of all or of none
 pub linked-all : (R : ℕ → ℕ → Type 0) (S : ℕ → Type 0) → ((f g : ℕ) → R f g → S f → S g) → ((f g : ℕ) → R f g → S g → S f) → (m n : ℕ) (faces : List ℕ) → IsLinked R faces → S m → is_among faces m ≡ true → is_among faces n ≡ true → S n
 linked-all R S forth back m n [] linked one h k = absurd (cc)
 linked-all R S forth back m n (f ∷ rest) linked one h k = linked-forth R S forth f n rest linked (linked-back R S back f m rest linked one h) k
@@ -62,7 +62,7 @@ linked-before R n f (g ∷ rest) linked h = here (or_cases (nat_eq n f) (is_amon
     here (inl same) behind = inl (eqb-true n f same)
     here (inr more) behind = further (behind more)
 
--- the list turned about is linked the other way
+-- the reversed list is linked by the reversed relation
 linked-onto : (R : ℕ → ℕ → Type 0) (f : ℕ) (acc rest : List ℕ) → IsLinked (λ m n. R n m) (f ∷ acc) → IsLinked R (f ∷ rest) → IsLinked (λ m n. R n m) (onto (f ∷ acc) rest)
 linked-onto R f acc [] before linked = before
 linked-onto R f acc (g ∷ rest) before linked = linked-onto R g (f ∷ acc) rest (linked.0, before) linked.1

@@ -76,7 +76,7 @@ module _ {X : Type 0} (f : ℕ → ℕ → X) where
       ap (λ (xs : Polygon). xs ∷ map (map back) (each_corner (n + 1) polygons)) (each-back back n polygon (λ v h. each 0 n v (omega arith) h))
       ∙ ap (λ (xss : List Polygon). polygon ∷ xss) (each_corner-back back (n + 1) polygons (λ face k v e h. each (suc face) k v (omega arith) h))
 
--- what passes at a place, where nothing does not pass
+-- some item passes if the item at a place does, and the empty polygon does not
 any-at-place : (test : Polygon → Bool) (polygons : List Polygon) (k : ℕ) → test [] ≡ false → test (polygon_at polygons k) ≡ true → list_any test polygons ≡ true
 any-at-place test [] k none h = absurd (cc)
 any-at-place test (polygon ∷ polygons) zero none h = or_left _ _ h

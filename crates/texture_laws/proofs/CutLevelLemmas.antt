@@ -157,7 +157,7 @@ module _ (mesh : ObjMesh) where
         ∙ ap (λ (x : Sharpness). if is_boundary mesh.faces (vertices_of mesh s) then Infinite else x) base
         ∙ twice (is_boundary mesh.faces (vertices_of mesh s)) Infinite (tagged_edge mesh.creases (vertices_of mesh s))
 
-    -- in the same order the edges are as sharp
+    -- the edges of the cut mesh are as sharp as those of the mesh, in the same order
     pub seamless-sharpness : (cut_level SmoothSeams mesh).edge_sharpness ≡ (base_level mesh).edge_sharpness
     seamless-sharpness =
         let polygons = cut_faces mesh in

@@ -175,7 +175,7 @@ module _ (mesh : ObjMesh) where
             here (inl same) = ap (has_end v) same
             here (inr turned) = ap (has_end v) turned ∙ or-swap (nat_eq v t.1) (nat_eq v t.0)
 
-    -- near faces are equal or share such an edge
+    -- near faces are equal or share an edge at v that is no seam
     pub near-parts : (f g : ℕ) → are_near f g ≡ true → (f ≡ g) ⊎ ((edge : ℕ × ℕ) × (has_end v edge ≡ true) × (is_seam mesh edge ≡ false) × (has_edge edge (polygon_at mesh.faces f) ≡ true) × (has_edge edge (polygon_at mesh.faces g) ≡ true))
     near-parts f g h = here (or_cases (nat_eq f g) (share_edge mesh.faces (joining_edges mesh v) f g) h)
       where
@@ -246,7 +246,7 @@ module _ (mesh : ObjMesh) where
         let least = first-least (has_corner v) (λ g. list_any (λ k. are_near k g) (joined_with are_near (faces_of_point mesh.faces v) face)) face f 0 mesh.faces (ap (λ (xs : List ℕ). is_among xs f) (sym filtered) ∙ k) in
         subst (λ (xs : List ℕ). get_or xs 0 face ≤ f) (sym filtered) least
 
-    -- what goes through such edges holds of all joined faces
+    -- a property that edges at v that are no seams pass on holds of all joined faces
     pub joins-only : (kept : ℕ → Bool) → ((f g : ℕ) (edge : ℕ × ℕ) → IsTrue (has_end v edge) → is_seam mesh edge ≡ false → IsTrue (has_edge edge (polygon_at mesh.faces f)) → IsTrue (has_edge edge (polygon_at mesh.faces g)) → IsTrue (kept f) → IsTrue (kept g)) → (face : ℕ) → IsTrue (kept face) → (f : ℕ) → IsTrue (is_among (joined_faces mesh v face) f) → IsTrue (kept f)
     joins-only kept closed face first f h = joins-least (λ n. kept n ≡ true) (λ k m close there has. here k m has (near-parts k m close)) face first f h
       where

@@ -33,7 +33,7 @@ once-distinct (x ∷ xs) =
     let gone : list_any (same_side x) (filter (λ y. not (same_side x y)) (each_once_by same_side xs)) ≡ false = any-other x x (each_once_by same_side xs) ∙ ap (λ b. if b then false else list_any (same_side x) (each_once_by same_side xs)) (same_side-refl x) in
     and_from _ _ (not_from_false _ gone) (distinct-filter (λ y. not (same_side x y)) (each_once_by same_side xs) (once-distinct xs))
 
--- what passes somewhere, passes at its first place
+-- if some item passes, the item at the first place passes
 pub first-within : {X : Type 0} (p : X → Bool) (xs : List X) → list_any p xs ≡ true → position_or_len p xs < length xs
 first-within p [] h = absurd (cc)
 first-within p (x ∷ xs) h = here (p x) refl (λ k. first-within p xs k)

@@ -73,7 +73,7 @@ module _ (near : ℕ → ℕ → Bool) (faces : List ℕ) where
   next-within : (reached : List ℕ) → IsWithin (next_reached reached) faces
   next-within reached n h = (next-parts reached n h).1
 
-  -- what holds of the first, and goes from near to near, holds of all that is reached
+  -- a property of the first that passes from near to near holds of all that is reached
   pub reached-least : (S : ℕ → Type 0) → ((f g : ℕ) → near f g ≡ true → is_among faces g ≡ true → S f → S g) → (steps : ℕ) (reached : List ℕ) → ((n : ℕ) → is_among reached n ≡ true → S n) → (n : ℕ) → is_among (reached_in steps reached) n ≡ true → S n
   reached-least S closed zero reached first n h = first n h
   reached-least S closed (suc steps) reached first n h =
@@ -128,7 +128,7 @@ module _ (near : ℕ → ℕ → Bool) (faces : List ℕ) where
     pub joined-closed : (face f g : ℕ) → is_among faces face ≡ true → near f g ≡ true → is_among faces g ≡ true → is_among (joined_with face) f ≡ true → is_among (joined_with face) g ≡ true
     joined-closed face f g inside h there joined = ap (λ (xs : List ℕ). is_among xs g) (sym (joined-stable face inside)) ∙ next-from (joined_with face) f g h joined there
 
-    -- what goes from near to near among the faces holds of all that are joined
+    -- a property that passes from near to near among the faces holds of all joined faces
     pub joined-least : (S : ℕ → Type 0) → ((f g : ℕ) → near f g ≡ true → is_among faces g ≡ true → S f → S g) → (face : ℕ) → S face → (f : ℕ) → is_among (joined_with face) f ≡ true → S f
     joined-least S closed face first f h = reached-least S closed (length faces) (face ∷ []) (λ n k. here n (or_cases (nat_eq n face) false k)) f h
       where

@@ -22,14 +22,14 @@ path-linked polygons v R each (f ∷ []) path = tt
 path-linked polygons v R each (f ∷ (g ∷ rest)) path = (each f g path.0, path-linked polygons v R each (g ∷ rest) path.1)
 
 module _ (mesh : ObjMesh) where
-  -- where the edge through which the successor follows is no seam, the two are near
+  -- a face and its successor through an edge that is no seam are near
   pub successor-near : (v f g : ℕ) → (is : IsSuccessor mesh.faces v f g) → is_seam mesh (v, is.corner) ≡ false → are_near mesh v f g ≡ true
   successor-near v f g is joins =
       let at_f = any-side-edge (v, is.corner) (sides_of (polygon_at mesh.faces f)) is.follows in
       let at_g = any-side-edge (is.corner, v) (sides_of (polygon_at mesh.faces g)) is.leads_back in
       near-from mesh v f g (v, is.corner) (or_left _ _ (eq-eqb v v refl)) joins at_f (edge-same (v, is.corner) (is.corner, v) (turned-edge v is.corner) (sides_of (polygon_at mesh.faces g)) ∙ at_g)
 
-  -- two near faces at v
+  -- two faces are near at v
   abbrev pub AreNearHere : ℕ → ℕ → ℕ → Type 0
   AreNearHere v f g = (are_near mesh v f g ≡ true) × (has_corner v (polygon_at mesh.faces f) ≡ true) × (has_corner v (polygon_at mesh.faces g) ≡ true)
 

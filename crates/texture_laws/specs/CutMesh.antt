@@ -1,4 +1,4 @@
--- The faces, points and sharpness of the cut mesh, from the mesh only.
+-- The faces, points and sharpness of the cut mesh of a mesh.
 use Rattle.std.specs.Prelude.{ℕ, ◌<◌, Bool, List, length, get_or, IsTrue}
 use Rattle.std.specs.List.{All}
 use Rattle.subdiv_model.specs.Polygons.{Polygon, polygon_at}

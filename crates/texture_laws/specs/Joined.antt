@@ -21,6 +21,6 @@ pub record HaveJoiningEdge (mesh : ObjMesh) (v f g : ℕ) : Type 0 where
   pub of_first : IsTrue (has_edge edge (polygon_at mesh.faces f))
   pub of_second : IsTrue (has_edge edge (polygon_at mesh.faces g))
 
--- if a face is kept, each face that shares such an edge with it is kept
+-- if a face is kept, each face that shares an edge at v with it, which is no seam, is kept
 abbrev pub KeepsJoined : ObjMesh → ℕ → (ℕ → Bool) → Type 0
 KeepsJoined mesh v kept = (f g : ℕ) → HaveJoiningEdge mesh v f g → IsTrue (kept f) → IsTrue (kept g)

@@ -27,8 +27,8 @@ pub fn cut_faces_are_the_faces_of_the_mesh()
     ensures used { (mesh : ObjMesh) (p : ℕ) → p < cut_point_count mesh → IsTrue (list_any (has_corner p) (cut_faces mesh)) }
 {}
 
-/// At a vertex only edges that are no seams join faces. Joined faces have the same list, whose first face is the least. Two faces
-/// share a channel point at a vertex exactly where they are joined there.
+/// At a vertex only edges that are no seams join faces. Joined faces have the same list of joined faces, which begins with the
+/// least. Two faces share a channel point at a vertex exactly if they are joined there.
 pub fn joined_faces_are_joined_through_edges()
     ensures within { (mesh : ObjMesh) (v face f : ℕ) → IsTrue (has_vertex mesh face v)
         → IsTrue (are_joined mesh v face f) → IsTrue (has_vertex mesh f v) }
@@ -55,8 +55,8 @@ pub fn cut_meshes_are_manifolds()
 {}
 
 /// The cut mesh of a manifold without seams is the mesh, up to the numbers of its points. Faces share a channel point exactly
-/// where they share a vertex. The edges, their order and their faces are those of the mesh; with smooth seams their sharpness is
-/// too.
+/// where they share a vertex. The edges, their order and their faces are those of the mesh. With smooth seams the edges are as
+/// sharp as in the mesh.
 pub fn cut_mesh_without_seams_is_the_mesh()
     ensures renamed { (mesh : ObjMesh) → IsSeamlessManifold mesh → (f g v w : ℕ) → IsTrue (has_vertex mesh f v)
         → IsTrue (has_vertex mesh g w) → (point_of mesh f v ≡ point_of mesh g w) ↔ (v ≡ w) }
@@ -69,8 +69,8 @@ pub fn cut_mesh_without_seams_is_the_mesh()
         → edge_sharpness_of (cut_level SmoothSeams mesh) (p, q) ≡ edge_sharpness_in_mesh mesh (p, q) }
 {}
 
-/// Level 0 of the cut mesh has the holes of the mesh. It has the sharpness of the mesh, except where a seam makes a boundary or
-/// the mode keeps a point sharp. It is well formed if level 0 of the mesh is.
+/// Level 0 of the cut mesh has the holes of the mesh. It has the sharpness of the mesh, except that its boundary edges and the
+/// points that the mode keeps sharp are infinitely sharp. It is well formed if level 0 of the mesh is.
 pub fn cut_levels_are_as_sharp_as_the_mesh()
     ensures boundary { (mode : SeamMode) (mesh : ObjMesh) (edge : ℕ × ℕ) → IsBoundaryEdge (cut_faces mesh) edge
         → edge_sharpness_of (cut_level mode mesh) edge ≡ Infinite }
