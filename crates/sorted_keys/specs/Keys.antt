@@ -31,11 +31,11 @@ abbrev pub Rises : List ℕ → Type 0
 Rises [] = Unit {0}
 Rises (n ∷ numbers) = IsTrue (list_all (nat_le n) numbers) × Rises numbers
 
--- the number at this many places after the first is the same too
+-- the number `gap` places after the first is n
 abbrev pub is_again : ℕ → List ℕ → ℕ → Bool
 is_again gap numbers n = nat_lt gap (length numbers) && nat_eq (get_or numbers gap 0) n
 
--- the numbers that occur again this many places later; among ascending numbers, those that occur more often than that
+-- the numbers that occur again `gap` places later; among ascending numbers, those that occur more than `gap` times
 abbrev pub repeats : ℕ → List ℕ → List ℕ
 repeats gap [] = []
 repeats gap (n ∷ numbers) = if is_again gap (n ∷ numbers) n then n ∷ repeats gap numbers else repeats gap numbers
@@ -71,11 +71,11 @@ pub record AreEdgeKeys (sides : List (ℕ × ℕ)) (keys : List ℕ) : Type 0 wh
   pub rises : Rises keys
   pub often : (n : ℕ) → count_by (nat_eq n) keys ≡ count_by (nat_eq n) (map edge_key sides)
 
--- the side is among these; if directions do not count, its edge is
+-- the side or its reverse is among the known numbers of sides; if directions do not count, its edge is among those of edges
 abbrev pub is_named : Bool → List ℕ → ℕ × ℕ → Bool
 is_named true known s = is_among known (side_key s) || is_among known (side_key (reversed s))
 is_named false known s = is_among known (edge_key s)
 
--- the number is one of these, and its place has no mark 1
+-- the number is one of the keys, and the mark at its place is not 1
 abbrev pub is_unmarked : List ℕ → List ℕ → ℕ → Bool
 is_unmarked keys marks n = is_among keys n && not (nat_eq (get_or marks (position_or_len (nat_eq n) keys) 0) 1)

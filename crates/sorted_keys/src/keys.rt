@@ -72,7 +72,7 @@ pub fn edge_keys(alloc: Global, sides: &[(u32, u32)]) -> Result<Vec<u64>, Memory
     keys_by(alloc, sides, false)
 }
 
-/// Returns whether the number `gap` places after the first is `key` too.
+/// Returns whether the number `gap` places after the first is `key`.
 #[inline]
 pub fn is_again(keys: &[u64], gap: usize, key: u64) -> bool
     ensures { result ≡ is_again gap keys.now key }
@@ -104,7 +104,7 @@ fn repeats(alloc: Global, keys: &[u64], gap: usize) -> Result<Vec<u64>, Memory>
     Ok(found)
 }
 
-/// Returns the numbers that occur in a list more often than the limit, ascending; one of them may be listed more than once. Reports
+/// Returns the numbers that occur in a list more than `limit` times, ascending. A number may be listed more than once. Reports
 /// [`Memory`] where memory runs out.
 pub fn frequent(alloc: Global, keys: Vec<u64>, limit: usize) -> Result<Vec<u64>, Memory>
     ensures rises { IfOk result (λ found. Rises found.items) }
