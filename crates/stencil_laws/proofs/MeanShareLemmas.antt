@@ -180,7 +180,7 @@ module _ (n : ℕ) (level : Level) (scheme : Scheme) (means : has_means level sc
       let points = from-mask_of is_point (weigh_points 1 corners) (length corners) (from-points is_point 1 corners (all-points corners)) in
       mean-shares n (corner_denominator dens) (λ v. corner_row (rows v)) (corner_support supports) (is_corner_of level) corner-shares (face_mask level f) mean.0 (corners-of level (face_mask level f).terms points mean.1)
 
--- A control has all of itself.
+-- The share of a control point in itself is 1.
 
 count-none : (p a n : ℕ) → p < a → count_by (nat_eq p) (range_with_len a n) ≡ 0
 count-none p a zero h = refl

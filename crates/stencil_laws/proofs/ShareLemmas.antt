@@ -23,7 +23,7 @@ use Rattle.stencil_laws.specs.Rows.{sum_over, sum_of_shares, value_of_shares}
 use Rattle.stencil_laws.proofs.SumOverLemmas.{over-same, over-one, over-none}
 use Rattle.stencil_laws.proofs.RowLemmas.{refined_rows, rows-over}
 
--- Where a common denominator is above 0, so is the value's own.
+-- Where a common denominator is above 0, the denominator of the value is.
 
 pub factors-positive : (a b : ℕ) → 0 < a * b → (0 < a) × (0 < b)
 factors-positive zero b h = absurd (omega arith)

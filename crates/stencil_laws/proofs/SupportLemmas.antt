@@ -74,7 +74,7 @@ module _ (n : ℕ) (controls others : List ℤ) (outside : (v : ℕ) → n ≤ v
   abbrev Agree : List ℕ → Type 0
   Agree support = (v : ℕ) → is_among support v ≡ true → get_or controls v (pos 0) ≡ get_or others v (pos 0)
 
-  -- where they agree at a union, they agree at each part of it
+  -- lists that agree at a union agree at each part of it
   parts-agree : (support : SourcePoint → List ℕ) (terms : List Term) → ((v : ℕ) → v < n → list_any (λ list. is_among list v) (map (λ t. support t.source) terms) ≡ true → get_or controls v (pos 0) ≡ get_or others v (pos 0)) → AllByRecursion (λ t. Agree (support t.source)) terms
   parts-agree support [] h = tt
   parts-agree support (t ∷ terms) h = (

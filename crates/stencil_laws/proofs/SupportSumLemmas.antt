@@ -73,7 +73,13 @@ module _ (level : Level) (scheme : Scheme) (k p : ℕ) where
       let whole = sym (over-naturals share support) ∙ support-all (λ v. pos (share v)) (λ v out. ap pos (share-outside level scheme k p v out)) ∙ over-naturals share points in
       ap unsigned_abs whole ∙ share-total level scheme k p means inside
 
-  pub manifold-shares : IsTrue (is_well_formed level) → IsManifold level.point_count level.polygons → IsTrue (has_sharp_boundary level) → p < (refined_level level k).point_count → ((v : ℕ) → IsTrue (is_among (get_or (refined_supports level scheme k) p []) v) → 0 < stencil_numerator level scheme k p v) × (sum_by (stencil_numerator level scheme k p) (get_or (refined_supports level scheme k) p []) ≡ get_or (refined_denominators level scheme k) p 1)
-  manifold-shares formed is sharp inside =
-      let means = λ (j : ℕ) (below : j < k). means-levels level scheme j formed is sharp in
-      (λ v among. share-above level scheme k p v means among, support-total means inside)
+  -- the masks of a manifold whose boundary is infinitely sharp are means
+  module _ (formed : IsTrue (is_well_formed level)) (is : IsManifold level.point_count level.polygons) (sharp : IsTrue (has_sharp_boundary level)) where
+    manifold-means : (j : ℕ) → j < k → IsTrue (has_means (refined_level level j) scheme)
+    manifold-means j below = means-levels level scheme j formed is sharp
+
+    pub manifold-above : (v : ℕ) → IsTrue (is_among (get_or (refined_supports level scheme k) p []) v) → 0 < stencil_numerator level scheme k p v
+    manifold-above v among = share-above level scheme k p v manifold-means among
+
+    pub manifold-total : p < (refined_level level k).point_count → sum_by (stencil_numerator level scheme k p) (get_or (refined_supports level scheme k) p []) ≡ get_or (refined_denominators level scheme k) p 1
+    manifold-total inside = support-total manifold-means inside

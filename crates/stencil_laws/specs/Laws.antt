@@ -55,6 +55,6 @@ value_by_shares point numbers controls = value_of_shares point.level point.schem
 abbrev pub AgreeAt : List ℕ → List ℤ → List ℤ → Type 0
 AgreeAt controls numbers others = (v : ℕ) → IsTrue (is_among controls v) → get_or numbers v (pos 0) ≡ get_or others v (pos 0)
 
--- both have the same number at each control point that the point depends on
+-- both lists of control numbers have the same number at each control point of the support
 abbrev pub AgreeOnSupport : (point : RefinedPoint) → Controls point.level → Controls point.level → Type 0
 AgreeOnSupport point controls others = AgreeAt (support_of point) controls.numbers others.numbers

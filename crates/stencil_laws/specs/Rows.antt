@@ -11,7 +11,7 @@ abbrev pub sum_over : (ℕ → ℤ) → List ℕ → ℤ
 sum_over number [] = pos 0
 sum_over number (v ∷ points) = number v +ℤ sum_over number points
 
--- the sum of shares times control numbers
+-- the sum, over some control points, of shares times control numbers
 abbrev pub sum_of_shares : (ℕ → ℕ) → List ℤ → List ℕ → ℤ
 sum_of_shares share controls points = sum_over (λ v. pos (share v) *ℤ get_or controls v (pos 0)) points
 

@@ -12,7 +12,7 @@ ghost use Rattle.subdiv_model.specs.Support.{entries_after, refined_supports};
 ghost use Rattle.mask_laws.specs.Laws.{Controls, IsManifoldWithSharpBoundary};
 ghost use Rattle.stencil_laws.specs.Laws.{RefinedPoint, IsInLevel, IsMadeByMeans, AgreeOnSupport, all_controls, support_of, denominator_of, share_of, value_of, value_by_shares};
 
-/// A refined point depends on the control points of its support only: others can change without changing its value.
+/// A refined point depends on the control points of its support only: other control points can move without changing its value.
 pub fn values_depend_only_on_supports()
     ensures { (point : RefinedPoint) (controls others : Controls point.level) → AgreeOnSupport point controls others
         → value_of point controls.numbers ≡ value_of point others.numbers }
@@ -41,7 +41,7 @@ pub fn shares_make_the_value()
 {}
 
 /// A control point outside the support has share 0. If the masks of each step are means, each share in the support is above 0,
-/// and the shares sum to the point's denominator. Manifolds whose boundary is infinitely sharp have such masks.
+/// and the shares sum to the denominator. In a manifold whose boundary is infinitely sharp the masks are means.
 pub fn shares_outside_the_support_are_none()
     ensures outside { (point : RefinedPoint) (v : ℕ) → is_among (support_of point) v ≡ false → share_of point v ≡ 0 }
     ensures inside { (point : RefinedPoint) (v : ℕ) → IsMadeByMeans point → IsTrue (is_among (support_of point) v) → 0 < share_of point v }
@@ -49,7 +49,7 @@ pub fn shares_outside_the_support_are_none()
         → sum_by (share_of point) (all_controls point) ≡ denominator_of point }
     ensures total_of_support { (point : RefinedPoint) → IsMadeByMeans point → IsInLevel point
         → sum_by (share_of point) (support_of point) ≡ denominator_of point }
-    ensures manifold_inside { (point : RefinedPoint) (v : ℕ) → IsManifoldWithSharpBoundary point.level → IsInLevel point
+    ensures manifold_inside { (point : RefinedPoint) (v : ℕ) → IsManifoldWithSharpBoundary point.level
         → IsTrue (is_among (support_of point) v) → 0 < share_of point v }
     ensures manifold_total_of_support { (point : RefinedPoint) → IsManifoldWithSharpBoundary point.level → IsInLevel point
         → sum_by (share_of point) (support_of point) ≡ denominator_of point }

@@ -1,6 +1,6 @@
 use Rattle.stencil_laws.proofs.OutsideLemmas.{share-outside}
 use Rattle.stencil_laws.proofs.MeanShareLemmas.{share-above, share-total}
-use Rattle.stencil_laws.proofs.SupportSumLemmas.{support-total, manifold-shares}
+use Rattle.stencil_laws.proofs.SupportSumLemmas.{support-total, manifold-above, manifold-total}
 use Rattle.stencil_laws.proofs.rows.shares_outside_the_support_are_none.Goals as goal
 
 pub returns-clause-outside : goal.returns-clause-outside
@@ -16,9 +16,7 @@ pub returns-clause-total_of_support : goal.returns-clause-total_of_support
 returns-clause-total_of_support c = λ p. support-total p.level p.scheme p.steps p.number
 
 pub returns-clause-manifold_inside : goal.returns-clause-manifold_inside
-returns-clause-manifold_inside c = λ p v is inside.
-    (manifold-shares p.level p.scheme p.steps p.number is.formed is.manifold is.sharp_boundary inside).0 v
+returns-clause-manifold_inside c = λ p v is. manifold-above p.level p.scheme p.steps p.number is.formed is.manifold is.sharp_boundary v
 
 pub returns-clause-manifold_total_of_support : goal.returns-clause-manifold_total_of_support
-returns-clause-manifold_total_of_support c = λ p is inside.
-    (manifold-shares p.level p.scheme p.steps p.number is.formed is.manifold is.sharp_boundary inside).1
+returns-clause-manifold_total_of_support c = λ p is. manifold-total p.level p.scheme p.steps p.number is.formed is.manifold is.sharp_boundary
