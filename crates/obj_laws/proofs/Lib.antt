@@ -15,4 +15,5 @@ pub mod ObjStepLemmas
 pub mod ReadingCauseLemmas
 pub mod ObjChannelLemmas
 pub mod ObjLateLemmas
+pub mod ChannelBoundLemmas
 pub mod ShortNumberLemmas

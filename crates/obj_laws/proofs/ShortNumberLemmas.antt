@@ -1,5 +1,5 @@
--- A text without fault has short coordinates over a common denominator of at most 10^37.
-use Rattle.std.proofs.Common.{◌≡◌, ℕ, suc, ◌<◌, ◌≤◌, ◌^◌, ◌||◌, ◌&&◌, Bool, true, false, not, nat_lt, List, [], ◌∷◌, length, map, get_or, take, drop, if◌then◌else◌, Option, Some, None, arith, refl, ap, codes}
+-- A text without fault has common denominators of at most 10^37, and short coordinates over them.
+use Rattle.std.proofs.Common.{◌≡◌, ℕ, suc, ◌<◌, ◌≤◌, ◌^◌, ◌||◌, ◌&&◌, Bool, true, false, not, nat_lt, List, [], ◌∷◌, length, map, get_or, take, drop, if◌then◌else◌, Option, Some, None, arith, refl, ap, codes, ltb-false, lit≤}
 use Rattle.std.specs.Option.{option_or}
 use Rattle.std.specs.List.{All, filter, list_any, AllByRecursion}
 use Rattle.std.proofs.lemmas.Bool.{cond_both}
@@ -9,7 +9,9 @@ use Rattle.std.proofs.lemmas.Slice.Eq.{bytes_eq-Decides}
 use Rattle.subdiv_model.specs.ObjLine.{is_vertex_line, is_face_line}
 use Rattle.subdiv_model.specs.ObjFault.{ObjCause, ObjFault}
 use Rattle.subdiv_model.specs.ObjWord.{Counts, number_over}
-use Rattle.subdiv_model.specs.ReadObj.{obj_lines, line_fault, fault_at, counts_of, values_of, is_tag_line, is_texture_line, is_continued, has_known_keyword, least_values, words_fault, common_over, passes_bound, is_long_over, has_long_number, long_fault, first_fault, late_fault, lesser_fault, first_bad_line, first_late_fault, read_obj_fault, position_common, texture_common_of, point_over, texture_over, read_obj_mesh}
+use Rattle.subdiv_model.specs.ReadObj.{obj_lines, line_fault, fault_at, counts_of, values_of, is_tag_line, is_texture_line, is_continued, has_known_keyword, least_values, words_fault, common_over, passes_bound, is_long_over, has_long_number, long_fault, first_fault, late_fault, lesser_fault, first_bad_line, first_late_fault, lines_fault, read_obj_fault, position_common, texture_common_of, point_over, texture_over, read_obj_mesh}
+use Rattle.obj_laws.proofs.RangeLemmas.{grows}
+use Rattle.obj_laws.proofs.ChannelBoundLemmas.{all-within}
 use Rattle.obj_laws.proofs.FirstFaultLemmas.{each-good}
 use Rattle.obj_laws.proofs.ObjGoodLemmas.{or-else-none}
 use Rattle.subdiv_model.specs.Short.{IsShort, IsShortPoint, IsShortTexture}
@@ -44,6 +46,27 @@ within-bound kind start lines h = go (passes_bound kind start lines) refl
     go : (b : Bool) → passes_bound kind start lines ≡ b → passes_bound kind start lines ≡ false
     go true e = absurd (grind (arith, nat_tests))
     go false e = e
+
+-- the common denominator of a channel without a late fault is at most 10^37, if it starts so
+channel-bounded : (kind : List (List ℕ) → Bool) (start : ℕ) (lines : List (List (List ℕ))) → start ≤ 10 ^ 37 → late_fault kind start lines ≡ None
+    → common_over start (filter kind lines) ≤ 10 ^ 37
+channel-bounded kind start lines low none =
+    ltb-false (10 ^ 37) (common_over start (filter kind lines)) (all-within kind start lines (within-bound kind start [] low) none)
+
+module _ (lines : List (List (List ℕ))) (least : ℕ) (good : lines_fault lines least ≡ None) where
+  -- neither channel of lines without fault has a late fault
+  vertex-late : late_fault is_vertex_line (10 ^ least) lines ≡ None
+  vertex-late = lesser-none (late_fault is_vertex_line (10 ^ least) lines) _ (second-none (first_bad_line lines) (first_late_fault least lines) good)
+
+  texture-late : late_fault is_texture_line 1 lines ≡ None
+  texture-late = other-none _ (late_fault is_texture_line 1 lines) (second-none (first_bad_line lines) (first_late_fault least lines) good)
+
+  -- both common denominators of lines without fault are at most 10^37
+  pub positions-bounded : least ≤ 37 → position_common least lines ≤ 10 ^ 37
+  positions-bounded few = channel-bounded is_vertex_line (10 ^ least) lines (grows least 37 few) vertex-late
+
+  pub texture-bounded : texture_common_of lines ≤ 10 ^ 37
+  texture-bounded = channel-bounded is_texture_line 1 lines (lit≤ tt) texture-late
 
 no-long-fault : (kind : List (List ℕ) → Bool) (start : ℕ) (lines : List (List (List ℕ))) → passes_bound kind start lines ≡ false
     → late_fault kind start lines ≡ None → first_fault (long_fault kind (common_over start (filter kind lines)) lines) (length lines) ≡ None
@@ -104,8 +127,7 @@ coordinates-short text least good few =
     let start = 10 ^ least in
     let bad = first_bad_line lines in
     let none = or-else-none bad (first_late_fault least lines) good in
-    let late = lesser-none (late_fault is_vertex_line start lines) _ (second-none bad (first_late_fault least lines) good) in
-    let fine = no-long-fault is_vertex_line start lines (within-bound is_vertex_line start lines few) late in
+    let fine = no-long-fault is_vertex_line start lines (within-bound is_vertex_line start lines few) (vertex-late lines least good) in
     All-from_recursion IsShortPoint (read_obj_mesh text least).points
     (all-made is_vertex_line (point_over common) IsShortPoint [] lines
     (λ i within is.
@@ -165,8 +187,7 @@ texture-short text least good few =
     let common = texture_common_of lines in
     let bad = first_bad_line lines in
     let none = or-else-none bad (first_late_fault least lines) good in
-    let late = other-none _ (late_fault is_texture_line 1 lines) (second-none bad (first_late_fault least lines) good) in
-    let fine = no-long-fault is_texture_line 1 lines (within-bound is_texture_line 1 lines few) late in
+    let fine = no-long-fault is_texture_line 1 lines (within-bound is_texture_line 1 lines few) (texture-late lines least good) in
     All-from_recursion IsShortTexture (read_obj_mesh text least).texture
     (all-made is_texture_line (texture_over common) IsShortTexture [] lines
     (λ i within is.
