@@ -1,5 +1,5 @@
 -- The answer of `apply` if a mesh follows its own table.
-use Rattle.std.proofs.Common.{◌≡◌, None, refl, ap, ◌∙◌}
+use Rattle.std.proofs.Common.{◌≡◌, None, refl, ap, ◌∙◌, lit≤}
 use Rattle.std.specs.List.{flat_map}
 use Rattle.subdiv_model.specs.Base.{base_level}
 use Rattle.subdiv_model.specs.Mask.{CatmullClark}
@@ -9,9 +9,9 @@ use Rattle.far_model.specs.Answer.{answer_of_apply, answer_of_stored_text, own_t
 use Rattle.far_model.specs.Command.{Apply}
 use Rattle.far_model.specs.Refusal.{answer_unless}
 use Rattle.far_model.specs.Stored.{control_fault, points_text}
-use Rattle.obj_laws.proofs.ShortNumberLemmas.{coordinates-short}
+use Rattle.obj_laws.proofs.ShortNumberLemmas.{positions-bounded, coordinates-short}
 use Rattle.table_laws.specs.Applied.{TextOfMesh, mesh_of, behind_table}
-use Rattle.table_laws.proofs.CommonLemmas.{common-short, common-positive}
+use Rattle.table_laws.proofs.CommonLemmas.{common-positive}
 use Rattle.table_laws.proofs.EvaluatedLemmas.{points-same}
 use Rattle.table_laws.proofs.FitLemmas.{is-composed, can-evaluate}
 use Rattle.table_laws.proofs.OwnTableLemmas.{composed-stored}
@@ -25,7 +25,7 @@ applied given =
     let own = own_table given.depth mesh in
     let stored = composed-stored given.depth 0 lines given.composed in
     let is = is-composed given.depth (lines_fault lines 0) mesh given.composed in
-    let common = common-short lines is.read_well in
+    let common = positions-bounded lines 0 is.read_well (lit≤ tt) in
     let points = coordinates-short given.text 0 is.read_well common in
     ap answer_of_apply (table-read own given.text stored)
     ∙ ap (λ fault. answer_unless (control_fault own fault mesh) (points_text own mesh)) is.read_well
