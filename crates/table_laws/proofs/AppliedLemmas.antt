@@ -10,14 +10,14 @@ use Rattle.far_model.specs.Command.{Apply}
 use Rattle.far_model.specs.Refusal.{answer_unless}
 use Rattle.far_model.specs.Stored.{control_fault, points_text}
 use Rattle.obj_laws.proofs.ShortNumberLemmas.{positions-bounded, coordinates-short}
-use Rattle.table_laws.specs.Applied.{TextOfMesh, mesh_of, behind_table}
+use Rattle.table_laws.specs.Applied.{TextOfMesh, mesh_of, table_then_mesh}
 use Rattle.table_laws.proofs.CommonLemmas.{common-positive}
 use Rattle.table_laws.proofs.EvaluatedLemmas.{points-same}
 use Rattle.table_laws.proofs.FitLemmas.{is-composed, can-evaluate}
 use Rattle.table_laws.proofs.OwnTableLemmas.{composed-stored}
 use Rattle.table_laws.proofs.ReadLemmas.{table-read}
 
-pub applied : (given : TextOfMesh) → answer_of_stored_text Apply (behind_table given)
+pub applied : (given : TextOfMesh) → answer_of_stored_text Apply (table_then_mesh given)
     ≡ record { text = flat_map (point_line None) (points_after (mesh_of given) given.depth); refusal = None }
 applied given =
     let lines = obj_lines given.text in

@@ -17,5 +17,5 @@ abbrev pub mesh_of : TextOfMesh → ObjMesh
 mesh_of given = read_obj_mesh given.text 0
 
 -- the text of the table, then the text of the mesh
-abbrev pub behind_table : TextOfMesh → List ℕ
-behind_table given = text_of_table (own_table given.depth (mesh_of given)) ++ given.text
+abbrev pub table_then_mesh : TextOfMesh → List ℕ
+table_then_mesh given = text_of_table (own_table given.depth (mesh_of given)) ++ given.text
