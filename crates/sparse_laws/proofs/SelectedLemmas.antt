@@ -4,6 +4,7 @@ use Rattle.std.specs.List.{filter, list_all, range_with_len}
 use Rattle.std.proofs.lemmas.Bool.{and_parts, eqb-true, ltb-true, lt-ltb, cases_lt}
 use Rattle.std.proofs.lemmas.List.{length-map, get_or-map, get_or_past}
 use Rattle.std.proofs.lemmas.List.FromFn.{fill_by_all}
+use Rattle.std.proofs.lemmas.Map.Views.{any-filter_same}
 use Rattle.subdiv_model.specs.Polygons.{is_among}
 use Rattle.subdiv_model.specs.Level.{Level, is_hole, faces_at}
 use Rattle.subdiv_model.specs.Child.{refined_level}
@@ -11,7 +12,7 @@ use Rattle.subdiv_model.specs.Feature.{facts_of, is_selectable}
 use Rattle.subdiv_model.specs.Sparse.{Meeting, meets, chosen, selected, inner, present, present_points, is_whole}
 use Rattle.mesh_laws.proofs.ClosedLemmas.{any-all}
 use Rattle.mesh_laws.proofs.FanLemmas.{faces-among}
-use Rattle.mesh_laws.proofs.WalkLemmas.{range-all, same-tests}
+use Rattle.mesh_laws.proofs.WalkLemmas.{range-all}
 use Rattle.part_laws.specs.Parts.{IsWholeAt, face_in}
 use Rattle.part_laws.proofs.ListLemmas.{filter-mapped}
 use Rattle.part_laws.proofs.AscendingLemmas.{Ascends, ascends, kept-of-all}
@@ -20,7 +21,7 @@ use Rattle.part_laws.proofs.PlaceLemmas.{among-range}
 use Rattle.sparse_laws.specs.SparseLevels.{name_in}
 use Rattle.sparse_laws.specs.Selected.{facts_in, is_selected_in}
 use Rattle.sparse_laws.specs.Laws.{Kept, InnerFace, AgreeingTest, chosen_by}
-use Rattle.sparse_laws.proofs.FactLemmas.{all-own, kept-pass, same-facts}
+use Rattle.sparse_laws.proofs.FactLemmas.{all-own, same-facts}
 use Rattle.sparse_laws.proofs.InnerLemmas.{inner-present, inner-ascends}
 
 -- what all numbers of a list pass, each passes
@@ -66,24 +67,23 @@ inner-facts kept at =
 pub range-below : (count : ℕ) → list_all (λ f. nat_lt f count) (range_with_len 0 count) ≡ true
 range-below count = range-all (λ f. nat_lt f count) 0 count (λ f h. lt-ltb f count (omega (arith, h)))
 
--- a number that is listed and passes is kept
-among-kept : (test : ℕ → Bool) (ns : List ℕ) (n : ℕ) → test n ≡ true → is_among ns n ≡ true → is_among (filter test ns) n ≡ true
-among-kept test [] n on h = h
-among-kept test (m ∷ ns) n on h = go (test m) refl (nat_eq n m) refl (λ more. among-kept test ns n on more)
+-- a number is kept exactly where it passes and is listed
+pub among-kept : (test : ℕ → Bool) (ns : List ℕ) (n : ℕ) → is_among (filter test ns) n ≡ (test n && is_among ns n)
+among-kept test ns n = any-filter_same (nat_eq n) test (test n) (λ m h. ap test (sym (eqb-true n m h))) ns
+
+-- a listed number is kept exactly where it passes
+pub kept-passes : (test : ℕ → Bool) (ns : List ℕ) (n : ℕ) → is_among ns n ≡ true → is_among (filter test ns) n ≡ test n
+kept-passes test ns n there = among-kept test ns n ∙ ap (λ b. test n && b) there ∙ whole (test n)
   where
-    go : (a : Bool) → test m ≡ a → (b : Bool) → nat_eq n m ≡ b → (is_among ns n ≡ true → is_among (filter test ns) n ≡ true) → is_among (filter test (m ∷ ns)) n ≡ true
-    go true e true f rest = rw (e, f) refl
-    go true e false f rest = let more = rest (rw f at h) in rw (e, f) more
-    go false e true f rest = let same = ap test (eqb-true n m f) in absurd (cc)
-    go false e false f rest = let more = rest (rw f at h) in rw e more
+    whole : (b : Bool) → (b && true) ≡ b
+    whole true = refl
+    whole false = refl
 
 kept-of-range : (test : ℕ → Bool) (count n : ℕ) → n < count → is_among (filter test (range_with_len 0 count)) n ≡ test n
-kept-of-range test count n below =
-    same-tests _ _
-    (λ there. among-all test (filter test (range_with_len 0 count)) n there (kept-pass test (range_with_len 0 count)))
-    (λ on. among-kept test (range_with_len 0 count) n on (among-range 0 count n (omega arith) (omega (arith, below))))
+kept-of-range test count n below = kept-passes test (range_with_len 0 count) n (among-range 0 count n (omega arith) (omega (arith, below)))
 
-filter-agree : (keep test other : ℕ → Bool) → ((n : ℕ) → keep n ≡ true → test n ≡ other n) → (ns : List ℕ) → list_all keep ns ≡ true → filter test ns ≡ filter other ns
+-- tests that agree on the listed numbers keep the same ones
+pub filter-agree : (keep test other : ℕ → Bool) → ((n : ℕ) → keep n ≡ true → test n ≡ other n) → (ns : List ℕ) → list_all keep ns ≡ true → filter test ns ≡ filter other ns
 filter-agree keep test other same [] all = refl
 filter-agree keep test other same (n ∷ ns) all =
     let parts = and_parts (keep n) (list_all keep ns) all in
