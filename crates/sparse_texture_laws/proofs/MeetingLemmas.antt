@@ -15,9 +15,9 @@ use Rattle.part_laws.proofs.ListLemmas.{map-twice, filter-mapped}
 use Rattle.part_laws.proofs.TermLemmas.{all-true}
 use Rattle.sparse_laws.proofs.InnerLemmas.{inner-present, places-ascend, range-ascends}
 use Rattle.sparse_laws.proofs.NumberLemmas.{corners-length}
-use Rattle.sparse_laws.proofs.SelectedLemmas.{selected-chosen}
+use Rattle.sparse_laws.proofs.SelectedLemmas.{filter-agree, selected-chosen}
 use Rattle.sparse_texture_laws.specs.Selection.{IsSelection, is_chosen_in, is_selected_kind, selected_numbers}
-use Rattle.sparse_texture_laws.proofs.SelectionLemmas.{kept-among, filter-agree, selected-among}
+use Rattle.sparse_texture_laws.proofs.SelectionLemmas.{kept-among, selected-among}
 
 -- the test by the numbers of all levels selects these numbers at each level
 pub selection-agrees : (base : Level) (depth : ℕ) (numbers : List (List ℕ)) → IsSelection base depth numbers → (k : ℕ) → k < depth → get_or numbers k [] ≡ meeting_of (is_chosen_in numbers) base k

@@ -1,7 +1,7 @@
 -- The faces that are selected by a predicate are a selection, of the level itself and of each level with the same faces.
-use Rattle.std.proofs.Common.{◌≡◌, ℕ, zero, suc, ◌<◌, ◌≤◌, Bool, true, false, not, ◌&&◌, nat_eq, List, [], ◌∷◌, length, get_or, arith, refl, ap, sym, ◌∙◌}
-use Rattle.std.specs.List.{filter, list_all, range_with_len}
-use Rattle.std.proofs.lemmas.Bool.{and_parts, eqb-true}
+use Rattle.std.proofs.Common.{◌≡◌, ℕ, zero, suc, ◌<◌, ◌≤◌, Bool, true, false, not, ◌&&◌, List, [], length, get_or, arith, refl, ap, sym, ◌∙◌}
+use Rattle.std.specs.List.{filter, range_with_len}
+use Rattle.std.proofs.lemmas.Bool.{and_parts}
 use Rattle.std.proofs.lemmas.List.FromFn.{length-map-range_with_len, get_or-map-range_with_len}
 use Rattle.subdiv_model.specs.Polygons.{is_among}
 use Rattle.subdiv_model.specs.Level.{Level, is_hole}
@@ -9,49 +9,16 @@ use Rattle.subdiv_model.specs.Child.{refined_level}
 use Rattle.subdiv_model.specs.Sparse.{Meeting, meets, chosen, selected, inner, children_of}
 use Rattle.subdiv_model.specs.SparseTexture.{selected_to}
 use Rattle.part_laws.proofs.AscendingLemmas.{kept-of-all}
-use Rattle.sparse_laws.proofs.FactLemmas.{kept-pass, all-own}
+use Rattle.sparse_laws.proofs.FactLemmas.{all-own}
 use Rattle.sparse_laws.proofs.InnerLemmas.{inner-ascends}
-use Rattle.sparse_laws.proofs.SelectedLemmas.{among-all, selected-chosen}
+use Rattle.sparse_laws.proofs.SelectedLemmas.{among-kept, kept-passes, filter-agree, selected-chosen}
 use Rattle.sparse_texture_laws.specs.Selection.{faces_among, IsSelection}
 use Rattle.sparse_texture_laws.specs.Cut.{HaveSameFaces}
 use Rattle.sparse_texture_laws.proofs.FaceLemmas.{children-same, count-same, after-same}
 
+-- a kept number is listed
 pub kept-among : (test : ℕ → Bool) (ns : List ℕ) (n : ℕ) → is_among (filter test ns) n ≡ true → is_among ns n ≡ true
-kept-among test [] n h = h
-kept-among test (m ∷ ns) n h = go (test m) refl (nat_eq n m) refl (λ more. kept-among test ns n more)
-  where
-    go : (a : Bool) → test m ≡ a → (b : Bool) → nat_eq n m ≡ b → (is_among (filter test ns) n ≡ true → is_among ns n ≡ true) → is_among (m ∷ ns) n ≡ true
-    go true e true f rest = rw f refl
-    go true e false f rest = let there = rw (e, f) at h in rw f (rest there)
-    go false e true f rest = rw f refl
-    go false e false f rest = let there = rw e at h in rw f (rest there)
-
-among-kept : (test : ℕ → Bool) (ns : List ℕ) (n : ℕ) → test n ≡ true → is_among ns n ≡ true → is_among (filter test ns) n ≡ true
-among-kept test [] n on h = h
-among-kept test (m ∷ ns) n on h = go (test m) refl (nat_eq n m) refl (λ more. among-kept test ns n on more)
-  where
-    go : (a : Bool) → test m ≡ a → (b : Bool) → nat_eq n m ≡ b → (is_among ns n ≡ true → is_among (filter test ns) n ≡ true) → is_among (filter test (m ∷ ns)) n ≡ true
-    go true e true f rest = rw (e, f) refl
-    go true e false f rest = let more = rest (rw f at h) in rw (e, f) more
-    go false e true f rest = let same = ap test (eqb-true n m f) in absurd (cc)
-    go false e false f rest = let more = rest (rw f at h) in rw e more
-
--- a number of the list is among those that are kept exactly where it passes
-kept-passes : (test : ℕ → Bool) (ns : List ℕ) (n : ℕ) → is_among ns n ≡ true → is_among (filter test ns) n ≡ test n
-kept-passes test ns n there = go (test n) refl (is_among (filter test ns) n) refl
-  where
-    go : (a : Bool) → test n ≡ a → (b : Bool) → is_among (filter test ns) n ≡ b → is_among (filter test ns) n ≡ test n
-    go true e b f = among-kept test ns n e there ∙ sym e
-    go false e false f = f ∙ sym e
-    go false e true f = let on = among-all test (filter test ns) n f (kept-pass test ns) in absurd (cc)
-
-pub filter-agree : (keep test other : ℕ → Bool) → ((n : ℕ) → keep n ≡ true → test n ≡ other n) → (ns : List ℕ) → list_all keep ns ≡ true → filter test ns ≡ filter other ns
-filter-agree keep test other same [] all = refl
-filter-agree keep test other same (n ∷ ns) all =
-    let parts = and_parts (keep n) (list_all keep ns) all in
-    let here = same n parts.0 in
-    let rest = filter-agree keep test other same ns parts.1 in
-    rw (here, rest) refl
+kept-among test ns n h = (and_parts (test n) (is_among ns n) (sym (among-kept test ns n) ∙ h)).1
 
 -- what was chosen is chosen again by its numbers
 again : (a b c : Bool) → a ≡ (b && c) → (a && c) ≡ (b && c)
