@@ -1,13 +1,13 @@
 -- The child faces of a part under the names of its points.
-use Rattle.std.proofs.Common.{◌≡◌, ℕ, suc, ◌+◌, ◌<◌, Bool, true, false, nat_eq, nat_lt, List, [], ◌∷◌, length, map, get_or, arith, refl, ap, sym, ◌∙◌}
+use Rattle.std.proofs.Common.{◌≡◌, ℕ, suc, ◌+◌, ◌<◌, true, nat_eq, nat_lt, List, [], ◌∷◌, length, map, get_or, arith, refl, ap, sym, ◌∙◌}
 use Rattle.std.specs.List.{list_all}
-use Rattle.std.proofs.lemmas.Bool.Decides.{nat_tests}
-use Rattle.std.proofs.lemmas.Bool.{eqb-true, eq-eqb, lt-ltb}
+use Rattle.std.proofs.lemmas.Bool.{eq-eqb, lt-ltb}
 use Rattle.std.proofs.lemmas.List.{get_or-map, length-map}
 use Rattle.std.proofs.lemmas.List.Sums.{list_all-from_AllPass}
 use Rattle.std.proofs.lemmas.List.Folds.{list_any_at}
-use Rattle.subdiv_model.specs.Polygons.{Polygon, polygon_at, is_among, is_over, has_corner}
+use Rattle.subdiv_model.specs.Polygons.{Polygon, polygon_at, is_over, has_corner}
 use Rattle.subdiv_model.specs.Child.{child_polygons}
+use Rattle.mesh_laws.proofs.TurnedLemmas.{among-map}
 use Rattle.level_laws.proofs.FaceLemmas.{child_polygons-length}
 use Rattle.part_laws.specs.Parts as laws
 use Rattle.part_laws.proofs.ListLemmas.{map-twice}
@@ -27,16 +27,6 @@ maps-same f g (x ∷ xs) same =
     let first : f x ≡ g x = same 0 (omega arith) in
     let rest = maps-same f g xs (λ i h. same (suc i) (omega (arith, h))) in
     ap (λ y. y ∷ map f xs) first ∙ ap (λ ys. g x ∷ ys) rest
-
-among-mapped : (f : ℕ → ℕ) (ns : List ℕ) (n : ℕ) → is_among (map f ns) n ≡ true → (k : ℕ) × (is_among ns k ≡ true) × (n ≡ f k)
-among-mapped f [] n h = absurd (cc)
-among-mapped f (m ∷ ns) n h = go (nat_eq n (f m)) refl (λ more. among-mapped f ns n more)
-  where
-    go : (b : Bool) → nat_eq n (f m) ≡ b → (is_among (map f ns) n ≡ true → (k : ℕ) × (is_among ns k ≡ true) × (n ≡ f k)) → (k : ℕ) × (is_among (m ∷ ns) k ≡ true) × (n ≡ f k)
-    go true e behind = (m, let self = eq-eqb m m refl in rw self refl, eqb-true n (f m) e)
-    go false e behind =
-        let found = behind (rw e at h) in
-        (found.0, grind (arith, nat_tests, found.1), found.2)
 
 four-same : {a a' b b' d d' e e' : ℕ} → a ≡ a' → b ≡ b' → d ≡ d' → e ≡ e' → a ∷ b ∷ d ∷ e ∷ [] ≡ a' ∷ b' ∷ d' ∷ e' ∷ []
 four-same p q r s = cc
@@ -89,8 +79,8 @@ module _ (t : Topology) (is : IsTopology t) (p : Part) (part : IsPart t.level.po
       let found = corner-of quads a h in
       let inside : found.0 < length p.places = omega (arith, found.1, count) in
       let here : has_corner a (map p.number (whole_quad points polygons (place found.0))) ≡ true = ap (has_corner a) (sym (quad-at-place points polygons (over-of t is) is.simple p part found.0 inside)) ∙ found.2 in
-      let own = among-mapped p.number (whole_quad points polygons (place found.0)) a here in
-      (own.0, part.corners found.0 own.0 inside own.1, own.2)
+      let own = among-map p.number (whole_quad points polygons (place found.0)) a here in
+      (own.0, part.corners found.0 own.0 inside own.1, sym own.2)
 
   pub corner-below : (a : ℕ) → laws.is_corner quads a ≡ true → a < length names
   corner-below a h = let from = corner-from a h in omega (arith, from.2, (known.listed from.0 from.1).0)
