@@ -1,7 +1,8 @@
 -- The present faces of a level, and the places of selected faces' children among them.
-use Rattle.std.proofs.Common.{◌≡◌, ℕ, zero, suc, ◌+◌, ◌*◌, ◌<◌, ◌≤◌, true, nat_eq, nat_le, List, [], ◌∷◌, length, get_or, take, arith, ap, sym, ◌∙◌, subst}
-use Rattle.std.specs.List.{list_all, position_or_len}
-use Rattle.std.proofs.lemmas.List.Sums.{list_all-from_AllPass, sum_by-cons}
+use Rattle.std.proofs.Common.{◌≡◌, ℕ, zero, suc, ◌+◌, ◌*◌, ◌<◌, ◌≤◌, true, nat_eq, nat_le, List, [], length, get_or, take, arith, ap, sym, ◌∙◌, subst}
+use Rattle.std.specs.List.{list_all, position_or_len, sum_by}
+use Rattle.std.proofs.lemmas.List.{take-take}
+use Rattle.std.proofs.lemmas.List.Sums.{list_all-from_AllPass, sum_by-take-le}
 use Rattle.std.proofs.lemmas.List.Kept.{AllPairs-from_increasing}
 use Rattle.subdiv_model.specs.Polygons.{Polygon, polygon_at, is_among}
 use Rattle.subdiv_model.specs.Level.{Level}
@@ -18,15 +19,7 @@ use Rattle.patch_map.proofs.RunLemmas.{run-at}
 
 -- the numbers of first children never decrease
 pub first-up : (polygons : List Polygon) (f g : ℕ) → f ≤ g → first_place polygons f ≤ first_place polygons g
-first-up [] zero zero h = omega arith
-first-up [] zero (suc g) h = omega arith
-first-up [] (suc f) zero h = omega arith
-first-up [] (suc f) (suc g) h = omega arith
-first-up (polygon ∷ polygons) zero g h = omega arith
-first-up (polygon ∷ polygons) (suc f) zero h = absurd (omega arith)
-first-up (polygon ∷ polygons) (suc f) (suc g) h =
-    let behind = first-up polygons f g (omega arith) in
-    omega (arith, behind, sum_by-cons length polygon (take f polygons), sum_by-cons length polygon (take g polygons))
+first-up polygons f g h = subst (λ firsts. sum_by length firsts ≤ first_place polygons g) (take-take f g polygons h) (sum_by-take-le length (take g polygons) f)
 
 module _ (base : Level) (meeting : Meeting) where
   -- present faces ascend, and are faces
