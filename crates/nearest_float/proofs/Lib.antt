@@ -3,6 +3,7 @@ pub mod NearLemmas
 pub mod RoundLemmas
 pub mod DivideLemmas
 pub mod ShiftLemmas
+pub mod PartLemmas
 pub mod ScaleLemmas
 pub mod WholeLemmas
 pub mod DistanceLemmas

@@ -8,14 +8,14 @@ use Rattle.nearest_float.specs.Scaled.{IsNearestSize, rounded_half_even}
 use Rattle.nearest_float.proofs.UnitLemmas.{units-at}
 use Rattle.nearest_float.proofs.NearLemmas.{nearest-below, nearest-above}
 
-rounded-down : (q r b : ℕ) → 2 * r < b → rounded_half_even q r b ≡ q
+pub rounded-down : (q r b : ℕ) → 2 * r < b → rounded_half_even q r b ≡ q
 rounded-down q r b less = ap (λ t. if t then q else (if (nat_lt b (2 * r)) then (q + 1) else (q + q % 2))) (lt-ltb (2 * r) b less)
 
-rounded-up : (q r b : ℕ) → b < 2 * r → rounded_half_even q r b ≡ q + 1
+pub rounded-up : (q r b : ℕ) → b < 2 * r → rounded_half_even q r b ≡ q + 1
 rounded-up q r b more =
     ap₂ (λ s t. if s then q else (if t then (q + 1) else (q + q % 2))) (le-ltb (2 * r) b (omega arith)) (lt-ltb b (2 * r) more)
 
-rounded-tie : (q r b : ℕ) → 2 * r ≡ b → rounded_half_even q r b ≡ q + q % 2
+pub rounded-tie : (q r b : ℕ) → 2 * r ≡ b → rounded_half_even q r b ≡ q + q % 2
 rounded-tie q r b same =
     ap₂ (λ s t. if s then q else (if t then (q + 1) else (q + q % 2))) (le-ltb (2 * r) b (omega arith)) (le-ltb b (2 * r) (omega arith))
 

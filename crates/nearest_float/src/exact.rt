@@ -1,10 +1,11 @@
-ghost use Rattle.std.specs.Prelude.{◌≡◌, ℕ, ◌+◌, ◌*◌, ◌/◌, ◌%◌, ◌^◌, ◌<◌, ◌≤◌, MatchResult};
-ghost use Rattle.nearest_float.specs.Binary.{binary32, binary64, significand, doublings, units, signed_by};
+ghost use Rattle.std.specs.Prelude.{◌≡◌, ◌*◌, ◌%◌, ◌^◌, ◌<◌, ◌≤◌, MatchResult};
+ghost use Rattle.nearest_float.specs.Binary.{binary32, binary64, units, signed_by};
 ghost use Rattle.nearest_float.specs.Exact.{IsExact};
 ghost use Rattle.nearest_float.specs.Faults.{IsReading, IsRefused};
 ghost use Rattle.nearest_float.specs.Terms.{AreTermsOf};
 
 use crate::FloatFault;
+use crate::parts::{Parts, parts_of, signed};
 use ratio128::Frac;
 
 const INFINITY64: u64 = 0x7ff0_0000_0000_0000;
@@ -14,35 +15,6 @@ const INFINITY32: u32 = 0x7f80_0000;
 const SIGN64: u64 = 0x8000_0000_0000_0000;
 
 const SIGN32: u32 = 0x8000_0000;
-
-// A size in units: a significand, and how often it is doubled.
-#[derive(Clone, Copy)]
-struct Parts {
-    significand: u64,
-    doublings: u32,
-}
-
-fn parts_of(size: u64, fraction_bits: u32) -> Parts
-    requires short { fraction_bits ≤ 52 }
-    requires finite { size < 2047 * 2 ^ fraction_bits }
-    ensures significand { result.significand ≡ significand fraction_bits size }
-    ensures doublings { result.doublings ≡ doublings fraction_bits size }
-    ensures few { result.doublings < 2047 }
-{
-    let field = size >> fraction_bits;
-    let fraction = size - (field << fraction_bits);
-    if field == 0 {
-        Parts {
-            significand: fraction,
-            doublings: 0,
-        }
-    } else {
-        Parts {
-            significand: fraction + (1 << fraction_bits),
-            doublings: (field - 1) as u32,
-        }
-    }
-}
 
 // Returns the lowest terms of an odd number of units, doubled `doublings` times. A unit is 1 / 2^unit_bits.
 fn terms_of_odd(odd: u128, doublings: u32, unit_bits: u32) -> Option<(u128, u128)>
@@ -81,15 +53,6 @@ fn terms_of(parts: Parts, unit_bits: u32) -> Option<(u128, u128)>
     let amount = parts.significand as u128;
     let twos = amount.trailing_zeros();
     terms_of_odd(amount >> twos, parts.doublings + twos, unit_bits)
-}
-
-// Returns the amount, negative unless the sign is 0.
-fn signed(sign: u64, amount: u128) -> i128
-    requires { amount < 2 ^ 127 }
-    ensures { result ≡ signed_by sign amount }
-{
-    let size = amount as i128;
-    if sign == 0 { size } else { -size }
 }
 
 // Returns the fraction of a finite size with a sign.

@@ -8,9 +8,11 @@ mod fault;
 pub mod laws;
 mod list;
 mod nearest;
+mod parts;
 mod size;
 
 pub use exact::{exact_binary32, exact_binary64};
 pub use fault::{FloatFault, ListFault};
 pub use list::exact_binary64s;
 pub use nearest::{nearest_binary32, nearest_binary64};
+pub use parts::{Parts, half_even, parts_of, signed};

@@ -1,5 +1,7 @@
 ghost use Rattle.std.specs.Prelude.{◌≡◌, ℕ, ◌+◌, ◌-◌, ◌*◌, ◌^◌, ◌<◌, ◌≤◌, IfSome};
-ghost use Rattle.nearest_float.specs.Scaled.{IsScaled, IsNearestSize, rounded_half_even};
+ghost use Rattle.nearest_float.specs.Scaled.{IsScaled, IsNearestSize};
+
+use crate::parts::half_even;
 
 // A fraction as a quotient from 1 up to 2, and how often it is doubled to give the number of units.
 #[derive(Clone, Copy)]
@@ -79,24 +81,6 @@ fn long_quotient(top: u128, bottom: u128, shift: u32) -> (u64, u128)
     }
 }
 
-// Returns the quotient, with the rest over `bottom` rounded to nearest, ties to even.
-fn rounded(quotient: u64, rest: u128, bottom: u128) -> u64
-    requires few { quotient < 2 ^ 53 }
-    requires rest { rest < bottom }
-    requires fits { bottom < 2 ^ 127 }
-    ensures value { result ≡ rounded_half_even quotient rest bottom }
-    ensures few { result ≤ 2 ^ 53 }
-{
-    let twice = rest * 2;
-    if twice < bottom {
-        quotient
-    } else if bottom < twice {
-        quotient + 1
-    } else {
-        quotient + quotient % 2
-    }
-}
-
 // Returns the size of a significand after its doublings. A significand of twice the hidden bit counts one more doubling.
 fn size_from(doublings: u64, significand: u64, fraction_bits: u32) -> u64
     requires short { fraction_bits ≤ 52 }
@@ -165,7 +149,7 @@ pub(crate) fn nearest_size(amount: u128, den: u128, fraction_bits: u32, unit_bit
     let fraction = widen(amount, den, unit_bits);
     let shift = fraction_bits.min(fraction.doublings);
     let (quotient, rest) = long_quotient(fraction.top, fraction.bottom, shift);
-    let significand = rounded(quotient, rest, fraction.bottom);
+    let significand = half_even(quotient, rest, fraction.bottom);
     size_from(
         (fraction.doublings - shift) as u64,
         significand,
