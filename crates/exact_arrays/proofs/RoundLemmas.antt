@@ -1,23 +1,13 @@
 -- Amounts rounded to multiples of a power of two.
-use Rattle.std.proofs.Common.{◌≡◌, ◌⊎◌, ℕ, zero, suc, ◌+◌, ◌-◌, ◌*◌, ◌%◌, ◌^◌, ◌<◌, ◌≤◌, inl, inr, false, not, nat_eq, nat_lt, if◌then◌else◌, arith, refl, ap, ap₂, sym, ◌∙◌, subst, pow_pos, pow_mono}
+use Rattle.std.proofs.Common.{◌≡◌, ◌⊎◌, ℕ, zero, suc, ◌+◌, ◌-◌, ◌*◌, ◌%◌, ◌^◌, ◌<◌, ◌≤◌, inl, inr, false, not, nat_eq, arith, refl, ap, ap₂, sym, ◌∙◌, subst, pow_pos, pow_mono}
 use Rattle.std.specs.Int.{abs_diff}
-use Rattle.std.proofs.lemmas.Bool.{cases_order, lt-ltb, le-ltb, ne_eqb}
+use Rattle.std.proofs.lemmas.Bool.{cases_order, ne_eqb}
 use Rattle.std.proofs.lemmas.Nat.{pow-add}
 use Rattle.std.proofs.Math.Nat.{mul_assoc, mul_comm, mul-one, add-mul, mul-sub, mul-le-mul_right, eq_of_mul-eq-mul_right}
 use Rattle.nearest_float.specs.Scaled.{rounded_half_even}
+use Rattle.nearest_float.proofs.RoundLemmas.{rounded-down, rounded-up, rounded-tie}
 use Rattle.exact_arrays.specs.declared.amount.Rounded.{Rounded}
 use Rattle.exact_arrays.specs.Amounts.{IsNearestAmount, IsRounding, IsFarAmount}
-
-rounded-down : (q r b : ℕ) → 2 * r < b → rounded_half_even q r b ≡ q
-rounded-down q r b less = ap (λ t. if t then q else (if (nat_lt b (2 * r)) then (q + 1) else (q + q % 2))) (lt-ltb (2 * r) b less)
-
-rounded-up : (q r b : ℕ) → b < 2 * r → rounded_half_even q r b ≡ q + 1
-rounded-up q r b more =
-    ap₂ (λ s t. if s then q else (if t then (q + 1) else (q + q % 2))) (le-ltb (2 * r) b (omega arith)) (lt-ltb b (2 * r) more)
-
-rounded-tie : (q r b : ℕ) → 2 * r ≡ b → rounded_half_even q r b ≡ q + q % 2
-rounded-tie q r b same =
-    ap₂ (λ s t. if s then q else (if t then (q + 1) else (q + q % 2))) (le-ltb (2 * r) b (omega arith)) (le-ltb b (2 * r) (omega arith))
 
 -- both are 0, or neither is
 same-none : (a b : ℕ) → ((a ≡ 0) × (b ≡ 0)) ⊎ ((0 < a) × (0 < b)) → nat_eq a 0 ≡ nat_eq b 0

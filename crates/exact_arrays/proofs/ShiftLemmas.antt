@@ -3,23 +3,8 @@ use Rattle.std.proofs.Common.{◌≡◌, ℕ, ◌+◌, ◌-◌, ◌*◌, ◌/◌
 use Rattle.std.proofs.lemmas.Nat.{pow-add}
 use Rattle.std.proofs.Math.Nat.{mul_assoc, mul_comm, mul-le-mul_right, mul-lt-mul_of_pos_right}
 
--- The remainder after the highest bits.
-pub fraction-is : (s p : ℕ) → s < 2 ^ 64 → s - s / 2 ^ p * 2 ^ p % 2 ^ 64 ≡ s % 2 ^ p
-fraction-is s p fits = let turned = mul_comm (s / 2 ^ p) (2 ^ p) in omega (arith, turned)
-
-pub fraction-below : (s p : ℕ) → s % 2 ^ p < 2 ^ p
-fraction-below s p = let some : 0 < 2 ^ p = pow_pos p in omega arith
-
 pub whole-again : (s p : ℕ) → s / 2 ^ p * 2 ^ p + s % 2 ^ p ≡ s
 whole-again s p = let turned = mul_comm (s / 2 ^ p) (2 ^ p) in omega (arith, turned)
-
-pub fraction-small : (s p : ℕ) → p ≤ 52 → s < 2 ^ 64 → s - s / 2 ^ p * 2 ^ p % 2 ^ 64 < 2 ^ 53
-fraction-small s p short fits =
-    let most : 2 ^ p ≤ 2 ^ 52 = pow_mono short in omega (arith, fraction-is s p fits, fraction-below s p, most)
-
-pub hidden-small : (s p : ℕ) → p ≤ 52 → s < 2 ^ 64 → s - s / 2 ^ p * 2 ^ p % 2 ^ 64 + 1 * 2 ^ p % 2 ^ 64 < 2 ^ 53
-hidden-small s p short fits =
-    let most : 2 ^ p ≤ 2 ^ 52 = pow_mono short in omega (arith, fraction-is s p fits, fraction-below s p, most)
 
 pub large-up : (s k e : ℕ) → 2 ^ k ≤ s → 126 < k + e → 2 ^ 127 ≤ s * 2 ^ e
 large-up s k e from many =

@@ -1,16 +1,10 @@
 //! Sizes of numbers, rounded to multiples of a power of two.
 
-ghost use Rattle.std.specs.Prelude.{◌≡◌, ℕ, ◌+◌, ◌*◌, ◌/◌, ◌%◌, ◌^◌, ◌<◌, ◌≤◌, IfSome, IfNone};
-ghost use Rattle.nearest_float.specs.Binary.{significand, doublings, units, signed_by};
-ghost use Rattle.nearest_float.specs.Scaled.{rounded_half_even};
+ghost use Rattle.std.specs.Prelude.{◌≡◌, ◌*◌, ◌^◌, ◌<◌, ◌≤◌, IfSome, IfNone};
+ghost use Rattle.nearest_float.specs.Binary.{units, signed_by};
 ghost use Rattle.exact_arrays.specs.Amounts.{IsRounding, IsRoundingOf, IsGridNumberOf};
 
-// A size in units: a significand, and how often it is doubled.
-#[derive(Clone, Copy)]
-struct Parts {
-    significand: u64,
-    doublings: u32,
-}
+use nearest_float::{Parts, half_even, parts_of, signed};
 
 // An amount as a numerator over the grid, and whether rounding changed it.
 #[derive(Clone, Copy)]
@@ -24,29 +18,6 @@ struct Rounded {
 pub(crate) struct GridNumber {
     pub(crate) numerator: i128,
     pub(crate) changed: bool,
-}
-
-fn parts_of(size: u64, fraction_bits: u32) -> Parts
-    requires short { fraction_bits ≤ 52 }
-    requires finite { size < 2047 * 2 ^ fraction_bits }
-    ensures significand { result.significand ≡ significand fraction_bits size }
-    ensures small { result.significand < 2 ^ 53 }
-    ensures doublings { result.doublings ≡ doublings fraction_bits size }
-    ensures few { result.doublings < 2047 }
-{
-    let field = size >> fraction_bits;
-    let fraction = size - (field << fraction_bits);
-    if field == 0 {
-        Parts {
-            significand: fraction,
-            doublings: 0,
-        }
-    } else {
-        Parts {
-            significand: fraction + (1 << fraction_bits),
-            doublings: (field - 1) as u32,
-        }
-    }
 }
 
 // Returns the significand doubled `shift` times, if that is below 2^127.
@@ -67,24 +38,6 @@ fn shifted_up(significand: u64, shift: u32) -> Option<u128>
     }
 }
 
-// Returns the quotient, with the rest over `bottom` rounded to nearest, ties to even.
-fn half_even(quotient: u64, rest: u64, bottom: u64) -> u64
-    requires few { quotient < 2 ^ 53 }
-    requires rest { rest < bottom }
-    requires fits { bottom < 2 ^ 63 + 1 }
-    ensures value { result ≡ rounded_half_even quotient rest bottom }
-    ensures few { result ≤ 2 ^ 53 }
-{
-    let twice = rest * 2;
-    if twice < bottom {
-        quotient
-    } else if bottom < twice {
-        quotient + 1
-    } else {
-        quotient + quotient % 2
-    }
-}
-
 // Returns the significand halved `shift` times and rounded, and whether that changed it.
 fn shifted_down(significand: u64, shift: u32) -> Rounded
     requires small { significand < 2 ^ 53 }
@@ -99,7 +52,7 @@ fn shifted_down(significand: u64, shift: u32) -> Rounded
     let quotient = significand >> shift;
     let rest = significand - (quotient << shift);
     Rounded {
-        amount: half_even(quotient, rest, 1 << shift) as u128,
+        amount: half_even(quotient, rest as u128, (1u64 << shift) as u128) as u128,
         changed: rest != 0,
     }
 }
@@ -123,15 +76,6 @@ fn rounded_amount(parts: Parts, unit_bits: u32, grid_bits: u32) -> Option<Rounde
             changed: false,
         }),
     }
-}
-
-// Returns the amount, negative unless the sign is 0.
-fn signed(sign: u64, amount: u128) -> i128
-    requires { amount < 2 ^ 127 }
-    ensures { result ≡ signed_by sign amount }
-{
-    let size = amount as i128;
-    if sign == 0 { size } else { -size }
 }
 
 // Returns a finite size with a sign, as a rounded numerator over the grid.

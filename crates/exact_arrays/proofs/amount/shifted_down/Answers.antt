@@ -1,6 +1,7 @@
 use Rattle.std.proofs.Common.{◌≡◌, ℕ, ◌*◌, ◌/◌, ◌%◌, ◌^◌, ◌-◌, ◌<◌, ◌≤◌, not, nat_eq, ap, ap₂, ◌∙◌, arith}
 use Rattle.nearest_float.specs.Scaled.{rounded_half_even}
-use Rattle.exact_arrays.proofs.ShiftLemmas.{fraction-is, fraction-below, whole-again, one-up}
+use Rattle.nearest_float.proofs.PartLemmas.{fraction-is, fraction-below}
+use Rattle.exact_arrays.proofs.ShiftLemmas.{whole-again, one-up}
 use Rattle.exact_arrays.proofs.RoundLemmas.{none-nearest, none-changed, half-even-nearest, half-even-changed}
 use Rattle.exact_arrays.proofs.amount.shifted_down.Goals as goal
 

@@ -1,8 +1,0 @@
-use Rattle.exact_arrays.proofs.ShiftLemmas.{fraction-small, hidden-small}
-use Rattle.exact_arrays.proofs.amount.parts_of.Goals as goal
-
-pub returns-then-field-eq0-clause-small : goal.returns-then-field-eq0-clause-small
-returns-then-field-eq0-clause-small c = fraction-small c.args.size c.args.fraction_bits c.requires.short c.ranges.size.fits
-
-pub returns-else-field-eq0-clause-small : goal.returns-else-field-eq0-clause-small
-returns-else-field-eq0-clause-small c = hidden-small c.args.size c.args.fraction_bits c.requires.short c.ranges.size.fits
