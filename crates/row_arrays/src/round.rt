@@ -10,26 +10,26 @@ ghost use Rattle.row_arrays.specs.Fractions as spec;
 use crate::FractionFault;
 use crate::fractions::{FractionArrays, fraction_fault};
 use nearest_arrays::{put_binary32, put_binary64};
+use ratio128::Frac;
 
-// Returns the numerator of a number.
-fn numerator_of(fractions: &FractionArrays, place: usize) -> i128
-    requires inside { place < length fractions.now.numerators.now }
-    requires good { spec.bad_numerator fractions.now ≡ None }
-    ensures value { result ≡ (spec.fraction_at fractions.now place).0 }
-    ensures fits { unsigned_abs result < 2 ^ 127 }
-{
-    fractions.numerators[place].integer()
-}
-
-// Returns the denominator of a number: its own times the scale.
-fn denominator_of(fractions: &FractionArrays, place: usize) -> u128
+// Returns a number as a fraction. Its denominator is that of its group times the scale.
+fn fraction_at(fractions: &FractionArrays, place: usize) -> Frac
     requires inside { place < length fractions.now.numerators.now }
     requires shared { 0 < fractions.now.per }
     requires enough { spec.needed fractions.now ≤ length fractions.now.denominators.now }
-    requires fits { (spec.fraction_at fractions.now place).1 < 2 ^ 127 }
-    ensures { result ≡ (spec.fraction_at fractions.now place).1 }
+    requires denominators { spec.bad_denominator fractions.now ≡ None }
+    requires numerators { spec.bad_numerator fractions.now ≡ None }
+    ensures num { result.num ≡ (spec.fraction_at fractions.now place).0 }
+    ensures num_fits { unsigned_abs result.num < 2 ^ 127 }
+    ensures den { result.den ≡ (spec.fraction_at fractions.now place).1 }
+    ensures positive { 0 < result.den }
+    ensures den_fits { result.den < 2 ^ 127 }
 {
-    fractions.denominators[place / fractions.per as usize].natural() * fractions.scale.natural()
+    let denominator = fractions.denominators[place / fractions.per as usize].natural();
+    Frac {
+        num: fractions.numerators[place].integer(),
+        den: denominator * fractions.scale.natural(),
+    }
 }
 
 // Writes the nearest doubles.
@@ -40,12 +40,8 @@ fn put_doubles(fractions: &FractionArrays, out: &mut [u64])
     ensures len { length out.new ≡ length out.old }
 {
     for place in 0..fractions.numerators.len() {
-        put_binary64(
-            out,
-            place,
-            numerator_of(fractions, place),
-            denominator_of(fractions, place),
-        );
+        let fraction = fraction_at(fractions, place);
+        put_binary64(out, place, fraction.num, fraction.den);
     }
 }
 
@@ -57,12 +53,8 @@ fn put_floats(fractions: &FractionArrays, out: &mut [u32])
     ensures len { length out.new ≡ length out.old }
 {
     for place in 0..fractions.numerators.len() {
-        put_binary32(
-            out,
-            place,
-            numerator_of(fractions, place),
-            denominator_of(fractions, place),
-        );
+        let fraction = fraction_at(fractions, place);
+        put_binary32(out, place, fraction.num, fraction.den);
     }
 }
 
