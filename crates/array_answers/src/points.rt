@@ -14,7 +14,8 @@ use std::alloc::Global;
 use std::marker::Brand;
 use std::sync::ledger::{Blank, Ledger};
 
-/// The points of a level. The numerators of a point are over its own denominator times the common one.
+/// The points of a level. The numerators of a point are over its own denominator times the common one. Its own denominator is that of its
+/// row in the table of the level.
 #[derive(Drop)]
 pub struct RefinedPoints {
     /// The common denominator of the mesh.
