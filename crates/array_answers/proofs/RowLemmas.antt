@@ -49,7 +49,7 @@ module _ (arrays : MeshArrays) (mesh : ObjMesh) (good : IsMeshOf arrays mesh) wh
     where
       go : (r : Result Table FaultRecord) → AreRowsComposed rows (mesh_of_arrays arrays) r → MatchResult r (AreArrayRows rows arrays) (IsRequestRefused (Some rows) arrays)
       go (Ok table) are = record { good = is-mesh; are = are }
-      go (Err found) refused = inr refused
+      go (Err found) refused = inr (is-mesh, refused)
 
   pub array-texture : (uv : Uv) (depth : ℕ) (found : Result ComposedTexture FaultRecord) (r : Result TextureArrays FaultRecord)
       → MatchResult found (λ texture. IsOkAnd r (λ arrays. arrays ≡ record { texture = texture; common = mesh.texture_common })) (λ fault. r ≡ Err fault)
@@ -64,7 +64,7 @@ module _ (arrays : MeshArrays) (mesh : ObjMesh) (good : IsMeshOf arrays mesh) wh
   array-texture uv depth (Ok texture) (Err fault) made is = absurd made
   array-texture uv depth (Err fault) r same refused =
       subst (λ r. MatchResult r (IsArrayTexture uv depth arrays) (IsRequestRefused (Some (TextureRows uv depth)) arrays)) (sym same)
-      (inr (subst (λ m. AreRowsRefused (TextureRows uv depth) m fault) good.same refused))
+      (inr (is-mesh, subst (λ m. AreRowsRefused (TextureRows uv depth) m fault) good.same refused))
 
 -- The rows are the requested ones.
 pub asked-rows : (request : RowRequest) (arrays : MeshArrays) (rows : Rows) (r : Result Table FaultRecord) → Some rows ≡ rows_asked request

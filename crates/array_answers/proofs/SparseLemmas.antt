@@ -46,4 +46,5 @@ sparse-of options mesh found few common are = record {
 pub sparse-in : (options : SparseOptions) (arrays : MeshArrays) (mesh : ObjMesh) (r : Result SparseArrays FaultRecord) → IsMeshOf arrays mesh →
     MatchResult r (AreSparseOf options mesh) (IsRefusedBy (sparse_position_faults options mesh) mesh) → MatchResult r (AreSparseIn options arrays) (IsSparseRefused (Some options) arrays)
 sparse-in options arrays mesh (Ok found) good are = record { good = subst (IsMeshOf arrays) good.same good; are = subst (λ m. AreSparseOf options m found) good.same are }
-sparse-in options arrays mesh (Err found) good refused = inr (subst (λ m. IsRefusedBy (sparse_position_faults options m) m found) good.same refused)
+sparse-in options arrays mesh (Err found) good refused =
+    inr (subst (IsMeshOf arrays) good.same good, subst (λ m. IsRefusedBy (sparse_position_faults options m) m found) good.same refused)

@@ -73,7 +73,8 @@ AreRowsComposed rows mesh result = MatchResult result (AreRowsOf rows mesh) (Are
 -- the record of refused arrays: a number of the request comes first, then the arrays, then the mesh
 abbrev pub IsRequestRefused : Option Rows → MeshArrays → FaultRecord → Type 0
 IsRequestRefused None arrays found = found ≡ bad_request
-IsRequestRefused (Some rows) arrays found = AreNoMesh arrays found ⊎ AreRowsRefused rows (mesh_of_arrays arrays) found
+IsRequestRefused (Some rows) arrays found =
+    AreNoMesh arrays found ⊎ (IsMeshOf arrays (mesh_of_arrays arrays) × AreRowsRefused rows (mesh_of_arrays arrays) found)
 
 -- the arrays are a mesh, and these are its rows
 pub record AreArrayRows (rows : Rows) (arrays : MeshArrays) (table : Table) : Type 0 where

@@ -49,7 +49,9 @@ pub record AreSparseAsked (request : SparseRequest) (arrays : MeshArrays) (found
 -- the record of refused arrays: a number of the request comes first, then the arrays, then the mesh
 abbrev pub IsSparseRefused : Option SparseOptions → MeshArrays → FaultRecord → Type 0
 IsSparseRefused None arrays found = found ≡ bad_request
-IsSparseRefused (Some options) arrays found = AreNoMesh arrays found ⊎ IsRefusedBy (sparse_position_faults options (mesh_of_arrays arrays)) (mesh_of_arrays arrays) found
+IsSparseRefused (Some options) arrays found =
+    AreNoMesh arrays found
+    ⊎ (IsMeshOf arrays (mesh_of_arrays arrays) × IsRefusedBy (sparse_position_faults options (mesh_of_arrays arrays)) (mesh_of_arrays arrays) found)
 
 -- the levels, or the record of the first fault
 abbrev pub AreSparseFound : SparseRequest → MeshArrays → Result SparseArrays FaultRecord → Type 0

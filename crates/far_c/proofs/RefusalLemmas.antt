@@ -50,12 +50,12 @@ rows-status asked mesh found (inr lacks) = same-status found rows.bad_request la
 pub request-status : (asked : Option Rows) (mesh : MeshArrays) (found : FaultRecord) → rows.IsRequestRefused asked mesh found → 2 ≤ found.status
 request-status None mesh found bad = same-status found rows.bad_request bad (lit≤ tt)
 request-status (Some asked) mesh found (inl none) = no-mesh-status mesh found none
-request-status (Some asked) mesh found (inr refused) = rows-status asked _ found refused
+request-status (Some asked) mesh found (inr refused) = rows-status asked _ found refused.1
 
 pub sparse-status : (asked : Option SparseOptions) (mesh : MeshArrays) (found : FaultRecord) → IsSparseRefused asked mesh found → 2 ≤ found.status
 sparse-status None mesh found bad = same-status found rows.bad_request bad (lit≤ tt)
 sparse-status (Some options) mesh found (inl none) = no-mesh-status mesh found none
-sparse-status (Some options) mesh found (inr refused) = refused-status _ _ found refused
+sparse-status (Some options) mesh found (inr refused) = refused-status _ _ found refused.1
 
 pub read-status : (refusal : Option Fault) (found : FaultRecord) → IsRefusedFor refusal found → 2 ≤ found.status
 read-status refusal found is = record-status found is.fault is.recorded
