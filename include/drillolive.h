@@ -317,7 +317,7 @@ drillolive_fault drillolive_table_check(const drillolive_mesh *mesh, uint32_t de
 typedef struct drillolive_points drillolive_points;
 
 /* Refine the points of the mesh exactly, and round each coordinate once, to the nearest double or float. An exact point has three numerators over one
-   denominator, not always in lowest terms. Errors as for a table. */
+   denominator: that of its row in the exact table, times the common denominator of the mesh. It is not always in lowest terms. Errors as for a table. */
 drillolive_fault drillolive_refine_doubles(const drillolive_mesh *mesh, uint32_t depth, drillolive_points **out);
 drillolive_fault drillolive_refine_floats(const drillolive_mesh *mesh, uint32_t depth, drillolive_points **out);
 drillolive_fault drillolive_refine_exact(const drillolive_mesh *mesh, uint32_t depth, drillolive_points **out);

@@ -141,7 +141,7 @@ uint32_t far_table_doubles(const struct far_mesh *mesh, const struct far_rows *r
 uint32_t far_table_floats(const struct far_mesh *mesh, const struct far_rows *request, struct far_table_counts *counts,
                           struct far_float_places *places, struct far_fault *fault);
 
-/* Three numerators and one denominator for each point. */
+/* Three numerators and one denominator for each point: that of its row in the table, times the scale of the mesh. */
 uint32_t far_points_exact(const struct far_mesh *mesh, uint32_t depth, uint64_t *count, struct far_wide *numerators, size_t numerators_len,
                           struct far_wide *denominators, size_t denominators_len, struct far_fault *fault);
 /* The bits of x, y and z of each point. */

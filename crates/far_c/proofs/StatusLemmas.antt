@@ -1,8 +1,11 @@
 -- The result of a call: it wrote, or it was refused.
-use Rattle.std.proofs.Common.{◌≡◌, ◌≤◌, ℕ, ◌*◌, Bool, true, false, nat_le, List, length, take, Option, Some, None, MatchOption, inl, inr, refl, ap, sym, ◌∙◌, subst, if◌then◌else◌}
+use Rattle.std.proofs.Common.{◌≡◌, ◌≤◌, ℕ, ◌*◌, Bool, true, false, nat_le, List, [], ◌∷◌, length, map, take, Option, Some, None, MatchOption, inl, inr, refl, ap, sym, ◌∙◌, subst, if◌then◌else◌}
 use Rattle.std.proofs.lemmas.Bool.{leb-false}
 use Rattle.subdiv_model.specs.Table.{Table}
-use Rattle.far_model.specs.Answer.{table_faults}
+use Rattle.subdiv_model.specs.Channel.{denominators_after}
+use Rattle.far_model.specs.Answer.{positions_of, table_faults}
+use Rattle.ratio128.specs.declared.point.Point3.{Point3}
+use Rattle.ratio128.specs.declared.valued.Valued.{Valued}
 use Rattle.nearest_float.specs.Binary.{Format}
 use Rattle.nearest_arrays.specs.Nearest.{AreNearest}
 use Rattle.flat_arrays.specs.declared.wide.Wide.{Wide}
@@ -14,7 +17,7 @@ use Rattle.table_arrays.specs.declared.places.TableCounts.{TableCounts}
 use Rattle.level_arrays.specs.Places as level
 use Rattle.level_arrays.specs.declared.counts.LevelCounts.{LevelCounts}
 use Rattle.level_arrays.specs.declared.places.LevelPlaces.{LevelPlaces}
-use Rattle.point_arrays.specs.Points.{coordinates}
+use Rattle.point_arrays.specs.Points.{coordinates, all_denominators}
 use Rattle.array_answers.specs.Asked.{rows_asked}
 use Rattle.array_answers.specs.Rows.{AreRowsAsked, IsRequestRefused}
 use Rattle.array_answers.specs.Composed.{IsRefinedOf, ArePointsOf}
@@ -27,7 +30,7 @@ use Rattle.row_arrays.specs.declared.fractions.FractionArrays.{FractionArrays}
 use Rattle.far_c.specs.Status.{AnswersFault}
 use Rattle.far_c.proofs.RefusalLemmas.{refusal-status, request-status}
 use Rattle.far_c.specs.Fractions.{AnswersFractions, record_of_fraction_fault}
-use Rattle.far_c.specs.Answers.{AnswersTable, AnswersLevel, AnswersPoints, AnswersExactPoints, AreExactPoints, are_exact_long_enough, IsRefusedAt}
+use Rattle.far_c.specs.Answers.{AnswersTable, AnswersLevel, AnswersPoints, AnswersExactPoints, AreExactPoints, AreExactPointsOf, are_exact_long_enough, IsRefusedAt}
 
 -- there is no fault
 pub none-answered : {F : Type 0} (record_of : F → FaultRecord) (fault : Option F) (held : FaultRecord) → fault ≡ None → AnswersFault record_of fault 0 held
@@ -76,6 +79,11 @@ module _ (mesh : MeshArrays) (request : RowRequest) (fault : FaultRecord) where
       → AnswersTable long_enough Written mesh request fault.status counts old old fault
   table-refused long_enough Written old counts is = inr (inr (request-status (rows_asked request) mesh fault is, refl, (is, refl)))
 
+-- the own denominators of points, times a common one
+own-denominators : (common : ℕ) (points : List (Valued Point3)) → all_denominators common points ≡ map (λ den. den * common) (map (λ point. point.den) points)
+own-denominators common [] = refl
+own-denominators common (point ∷ points) = ap (λ dens. point.den * common ∷ dens) (own-denominators common points)
+
 module _ (mesh : MeshArrays) (depth : ℕ) (fault : FaultRecord) where
   pub refused-at-status : IsRefusedAt mesh depth fault → 2 ≤ fault.status
   refused-at-status is = refusal-status depth (table_faults depth (mesh_of_arrays mesh)) mesh fault is
@@ -113,12 +121,20 @@ module _ (mesh : MeshArrays) (depth : ℕ) (fault : FaultRecord) where
   pub points-refused : (f : Format) (count : ℕ) (old : List ℕ) → IsRefusedAt mesh depth fault → AnswersPoints f mesh depth fault.status count old old fault
   points-refused f count old is = inr (inr (refused-at-status is, refl, (is, refl)))
 
+  exact-defined : (count : ℕ) (nums dens : List Wide) (refined : RefinedPoints) → ArePointsOf mesh depth refined → AreExactPoints count nums dens refined → AreExactPointsOf mesh depth count nums dens refined
+  exact-defined count nums dens refined are written = record {
+    written = written;
+    defined = written.dens ∙ own-denominators refined.common refined.points.items
+        ∙ ap (λ own. map (λ den. den * refined.common) own) are.dens
+        ∙ ap (λ common. map (λ den. den * common) (denominators_after (positions_of (mesh_of_arrays mesh)) depth)) are.common;
+  }
+
   exact-written : (old_nums nums old_dens dens : List Wide) (refined : RefinedPoints) (ok : Bool) (status : ℕ)
       → ArePointsOf mesh depth refined → ok ≡ are_exact_long_enough (length refined.points.items) old_nums old_dens
       → (ok ≡ true → AreExactPoints (length refined.points.items) nums dens refined) → (ok ≡ false → (nums ≡ old_nums) × (dens ≡ old_dens)) → status ≡ (if ok then 0 else 1)
       → AnswersExactPoints mesh depth status (length refined.points.items) old_nums nums old_dens dens fault
   exact-written old_nums nums old_dens dens refined true status are enough written kept done =
-      inl (done, record { refined = refined; are = are; counted = refl; holds = written refl })
+      inl (done, record { refined = refined; are = are; counted = refl; holds = exact-defined (length refined.points.items) nums dens refined are (written refl) })
   exact-written old_nums nums old_dens dens refined false status are enough written kept done =
       inr (inl (done, record { refined = refined; are = are; counted = refl; holds = (sym enough, (kept refl).0, (kept refl).1) }))
 

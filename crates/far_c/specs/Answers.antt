@@ -1,7 +1,8 @@
 -- The results of calls for a mesh: its table, its points and its level at a depth.
 use Rattle.std.specs.Prelude.{ℕ, ◌≡◌, ◌<◌, ◌*◌, ◌&&◌, Bool, false, nat_le, List, length, map, take}
 use Rattle.subdiv_model.specs.Table.{Table}
-use Rattle.far_model.specs.Answer.{table_faults}
+use Rattle.subdiv_model.specs.Channel.{denominators_after}
+use Rattle.far_model.specs.Answer.{positions_of, table_faults}
 use Rattle.level_topology.specs.Topology.{Topology}
 use Rattle.flat_arrays.specs.Words.{integer_of, natural_of}
 use Rattle.flat_arrays.specs.declared.wide.Wide.{Wide}
@@ -81,10 +82,20 @@ pub record AreExactPoints (count : ℕ) (numerators denominators : List Wide) (r
   pub nums : map integer_of (take (3 * count) numerators) ≡ all_numerators refined.points.items
   pub dens : map natural_of (take count denominators) ≡ all_denominators refined.common refined.points.items
 
+-- the denominators of the points of the mesh at the depth: those of the rows of its table, times the common denominator of the mesh
+abbrev pub point_denominators : MeshArrays → ℕ → List ℕ
+point_denominators mesh depth =
+    map (λ den. den * (mesh_of_arrays mesh).common) (denominators_after (positions_of (mesh_of_arrays mesh)) depth)
+
+-- the numerators of the points are written over the denominators that the definitions give
+pub record AreExactPointsOf (mesh : MeshArrays) (depth count : ℕ) (numerators denominators : List Wide) (refined : RefinedPoints) : Type 0 where
+  pub written : AreExactPoints count numerators denominators refined
+  pub defined : map natural_of (take count denominators) ≡ point_denominators mesh depth
+
 -- the exact points are written, or only their number
 abbrev pub AnswersExactPoints : MeshArrays → ℕ → ℕ → ℕ → List Wide → List Wide → List Wide → List Wide → FaultRecord → Type 0
 AnswersExactPoints mesh depth status count old_nums nums old_dens dens fault =
     IsStatus status
-    (HasPoints mesh depth count (AreExactPoints count nums dens))
+    (HasPoints mesh depth count (AreExactPointsOf mesh depth count nums dens))
     (HasPoints mesh depth count (λ p. (are_exact_long_enough count old_nums old_dens ≡ false) × (nums ≡ old_nums) × (dens ≡ old_dens)))
     (λ found. IsRefusedAt mesh depth found × (nums ≡ old_nums) × (dens ≡ old_dens)) fault

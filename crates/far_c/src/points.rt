@@ -76,9 +76,9 @@ fn put_floats(refined: &RefinedPoints, out: &mut [u32]) -> bool
     true
 }
 
-/// Writes the exact points of a mesh at `depth`, at most 10, and their number. A point has three numerators over one denominator, which
-/// already contains the common one of the mesh. If an array is too short, it writes only the number. Places behind the points keep their
-/// contents.
+/// Writes the exact points of a mesh at `depth`, at most 10, and their number. A point has three numerators over one denominator: that of
+/// its row in the table of the level, times the common one of the mesh. If an array is too short, it writes only the number. Places behind
+/// the points keep their contents.
 #[unsafe(no_mangle)]
 pub extern "C" fn far_points_exact(
     alloc: Global,
