@@ -1,5 +1,5 @@
 -- The result of the call for the mesh of an OBJ text.
-use Rattle.std.specs.Prelude.{ℕ, ◌≡◌, ◌<◌, ◌^◌, ◌⊎◌, false, List, length}
+use Rattle.std.specs.Prelude.{ℕ, ◌≡◌, ◌<◌, ◌≤◌, ◌^◌, ◌⊎◌, false, List, length}
 use Rattle.subdiv_model.specs.Fault.{Fault, Long}
 use Rattle.subdiv_model.specs.ObjMesh.{ObjMesh}
 use Rattle.mesh_answers.specs.MeshText.{IsMeshText, IsTextFault}
@@ -11,18 +11,23 @@ use Rattle.fault_record.specs.Back.{IsRecordOf}
 use Rattle.fault_record.specs.declared.record.FaultRecord.{FaultRecord}
 use Rattle.far_c.specs.Status.{IsStatus}
 
--- the text has a mesh with these counts and options, and `Holds` is true of it
+-- the greatest number of bytes of a text
+abbrev pub text_limit : ℕ
+text_limit = 2 ^ 28
+
+-- the text is not too long, it has a mesh with these counts and options, and `Holds` is true of the mesh
 pub record HasMesh (text : List ℕ) (counts : MeshCounts) (options : MeshOptions) (Holds : ObjMesh → Type 0) : Type 0 where
+  pub short : length text ≤ text_limit
   pub mesh : ObjMesh
   pub is : IsMeshText text 0 mesh
   pub counted : counts ≡ counts_of mesh
   pub options_are : AreOptionsOf mesh options
   pub holds : Holds mesh
 
--- the text is refused for its length or a line, and this is the record
+-- the text is refused for its length, or else for its first bad line, and this is the record; only the lines can want memory
 pub record IsTextRefused (text : List ℕ) (found : FaultRecord) : Type 0 where
   pub fault : Fault
-  pub is : ((2 ^ 28 < length text) × (fault ≡ Long)) ⊎ IsTextFault text 0 fault
+  pub is : ((text_limit < length text) × (fault ≡ Long)) ⊎ ((length text ≤ text_limit) × IsTextFault text 0 fault)
   pub recorded : IsRecordOf found fault
 
 -- the mesh is written, or only its counts and options if an array is too short

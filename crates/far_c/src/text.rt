@@ -18,6 +18,8 @@ const TEXT_LIMIT: usize = 1 << 28;
 
 /// Writes the mesh of an OBJ text of at most 2^28 bytes, its counts and its options. If an array is too short, it writes only the counts
 /// and the options. Places behind the items keep their contents.
+///
+/// Errors, in this order: the text is too long; its first bad line. Only the lines can want memory.
 #[unsafe(no_mangle)]
 pub extern "C" fn far_read_obj(
     alloc: Global,
