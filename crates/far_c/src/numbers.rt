@@ -36,8 +36,8 @@ fn bad_grid() -> FaultRecord
 }
 
 /// Writes the numerators of doubles, given as bits, over their least common denominator, and that denominator. If `out` is too short, it
-/// writes nothing. The fault names the first double without an exact fraction, or else the first with a numerator of 2^127 or more in
-/// amount; `out` then has no defined contents.
+/// writes nothing and judges no number. The fault names the first double without an exact fraction, or else the first with a numerator of
+/// 2^127 or more in amount; `out` then has no defined contents.
 #[unsafe(no_mangle)]
 pub extern "C" fn far_scale_doubles(
     bits: &[u64],
@@ -66,8 +66,8 @@ pub extern "C" fn far_scale_doubles(
 }
 
 /// Writes the numerators of floats, given as bits, over their least common denominator, and that denominator. If `out` is too short, it
-/// writes nothing. The fault names the first float without an exact fraction, or else the first with a numerator of 2^127 or more in
-/// amount; `out` then has no defined contents.
+/// writes nothing and judges no number. The fault names the first float without an exact fraction, or else the first with a numerator of
+/// 2^127 or more in amount; `out` then has no defined contents.
 #[unsafe(no_mangle)]
 pub extern "C" fn far_scale_floats(
     bits: &[u32],
@@ -96,8 +96,9 @@ pub extern "C" fn far_scale_floats(
 }
 
 /// Rounds doubles, given as bits, to multiples of 2^-grid_bits, ties to even. It writes their numerators over 2^grid_bits, and the number
-/// of doubles that changed. If `out` is too short, it writes nothing. It refuses `grid_bits` above 126 first. Another fault names
-/// the first double that is not finite or has a numerator of 2^127 or more in amount; `out` then has no defined contents.
+/// of doubles that changed. It refuses `grid_bits` above 126 first. If `out` is too short, it then writes nothing and judges no number.
+/// Another fault names the first double that is not finite or has a numerator of 2^127 or more in amount; `out` then has no defined
+/// contents.
 #[unsafe(no_mangle)]
 pub extern "C" fn far_round_doubles(
     bits: &[u64],
@@ -131,8 +132,9 @@ pub extern "C" fn far_round_doubles(
 }
 
 /// Rounds floats, given as bits, to multiples of 2^-grid_bits, ties to even. It writes their numerators over 2^grid_bits, and the number
-/// of floats that changed. If `out` is too short, it writes nothing. It refuses `grid_bits` above 126 first. Another fault names
-/// the first float that is not finite or has a numerator of 2^127 or more in amount; `out` then has no defined contents.
+/// of floats that changed. It refuses `grid_bits` above 126 first. If `out` is too short, it then writes nothing and judges no number.
+/// Another fault names the first float that is not finite or has a numerator of 2^127 or more in amount; `out` then has no defined
+/// contents.
 #[unsafe(no_mangle)]
 pub extern "C" fn far_round_floats(
     bits: &[u32],
