@@ -1,3 +1,2 @@
-mod BaseLemmas
 mod RowLemmas
 mod StepLemmas

@@ -1,14 +1,10 @@
-//! Tests tables of stencils: put together, composed, evaluated, and moved in sessions with their marks.
+//! Tests tables of stencils: put together, evaluated, and moved in sessions with their marks.
 #![tactic(auto)]
 
-#[cfg(test)]
-mod composed;
 #[cfg(test)]
 mod expect;
 #[cfg(test)]
 mod marks;
-#[cfg(test)]
-mod moved;
 #[cfg(test)]
 mod number_lists;
 #[cfg(test)]

@@ -1,10 +1,10 @@
 // Tables of stencils: put together, read back and evaluated.
 
-ghost use Rattle.std.specs.Prelude.{◌≡◌, ◌*◌, ◌≤◌, ◌<◌, true, length, ◌∷◌, []};
+ghost use Rattle.std.specs.Prelude.{◌≡◌, ◌+◌, ◌*◌, ◌≤◌, ◌<◌, true, length, ◌∷◌, []};
 ghost use Rattle.std.specs.List.{All};
 ghost use Rattle.subdiv_model.specs.Channel.{number_bound};
 ghost use Rattle.ratio128.specs.Numbers.{greatest_amount};
-ghost use Rattle.stencil_apply.specs.Table.{IsRow, greatest_of};
+ghost use Rattle.stencil_apply.specs.Table.{IsRow, entries_of, greatest_of};
 ghost use Rattle.stencil_apply.specs.Arrays.{row_of};
 ghost use Rattle.stencil_apply.specs.Built.{no_rows};
 
@@ -16,10 +16,11 @@ use std::marker::Brand;
 use std::process::Abort;
 use std::sync::ledger::{Blank, Ledger};
 use std::test::Fail;
+use stencil_apply::laws::ranges_cover_the_table;
 use stencil_apply::{Entry, StencilTable, TableBuilder, apply_range, scale_fits};
 
 // The greatest denominator, and the greatest numerator over it.
-pub const NUMBER_BOUND: u128 = (1 << 126) - 1;
+const NUMBER_BOUND: u128 = (1 << 126) - 1;
 
 // A row: its denominator, and its control points with their numerators.
 pub type Row = (u128, &'static [Entry]);
@@ -48,17 +49,6 @@ const SQUARE: &[Row] = &[
 
 pub fn square() -> &'static [Row] {
     SQUARE
-}
-
-// Rows of the cube after one step, by their numbers: those of a vertex, of a face and of an edge.
-const CUBE: &[(u32, Row)] = &[
-    (0, (36, entries![0 15, 1 6, 2 6, 3 1, 4 1, 6 6, 7 1])),
-    (8, (4, entries![0 1, 1 1, 2 1, 3 1])),
-    (14, (16, entries![0 6, 1 6, 2 1, 3 1, 6 1, 7 1])),
-];
-
-pub fn cube() -> &'static [(u32, Row)] {
-    CUBE
 }
 
 // The corners of the square, and the sums of the rows.
@@ -173,44 +163,21 @@ pub fn counts_of(table: &StencilTable) -> (u32, u32, u64, u128) {
     )
 }
 
-// The table of these rows has these counts, and its rows are read back.
-fn expect_table(
-    rt: &impl Abort,
-    added: Result<(), Memory>,
-    table: &StencilTable,
-    counts: (u32, u32, u64, u128),
-    rows: &[Row],
-) -> Result<(), Fail> {
-    added?;
-    expect_same(rt, &counts_of(table), &counts, &"counts");
-    expect_rows(rt, table, rows)
-}
-
-// A table with free capacity takes a row.
-fn expect_taken_in_room(rt: &(impl Abort + AllocGlobal)) -> Result<(), Fail> {
-    let mut builder = TableBuilder::with_room(rt.alloc(), 4, 1, 3, Width::Narrow)?;
+// Adds the row for which the builder has room.
+fn fill_room(rt: &impl Abort, builder: &mut TableBuilder) -> Result<(), Memory>
+    requires { builder.old.table ≡ no_rows 4 }
+{
     expect_same(rt, &builder.room(), &(1, 3), &"before");
-    let added = add_rows(rt, &mut builder, 4, one_row());
+    add_rows(rt, builder, 4, one_row())?;
     expect_same(rt, &builder.room(), &(0, 0), &"after");
-    expect_table(rt, added, &builder.finish(), (4, 1, 3, 8), one_row())
+    Ok(())
 }
 
 #[test]
 fn takes_a_row_in_its_room(rt: HostRuntime) -> Result<(), Fail> {
-    expect_taken_in_room(&rt)
-}
-
-fn expect_taken(rt: &(impl Abort + AllocGlobal)) -> Result<(), Fail> {
-    let mut builder = TableBuilder::new(rt.alloc(), 4);
-    expect_same(rt, &builder.room(), &(0, 0), &"before");
-    let added = add_rows(rt, &mut builder, 4, square());
-    expect_same(rt, &builder.room(), &(0, 0), &"after");
-    expect_table(rt, added, &builder.finish(), (4, 4, 11, 8), square())
-}
-
-#[test]
-fn takes_rows_without_room(rt: HostRuntime) -> Result<(), Fail> {
-    expect_taken(&rt)
+    let mut builder = TableBuilder::with_room(rt.alloc(), 4, 1, 3, Width::Narrow)?;
+    fill_room(&rt, &mut builder)?;
+    expect_rows(&rt, &builder.finish(), one_row())
 }
 
 // The greatest amount of a point.
@@ -229,103 +196,63 @@ fn is_fit(table: &StencilTable, p: &Point3) -> bool
     scale_fits(table, greatest_of_point(p))
 }
 
-// Asserts that the table can be evaluated over each control.
+// Asserts that the table can be evaluated over the controls.
 pub fn assert_fits(rt: &impl Abort, table: &StencilTable, controls: &[Point3])
-    ensures { All (λ p. greatest_of table.now * greatest_amount (p.x ∷ p.y ∷ p.z ∷ []) ≤ number_bound) controls.now }
+    ensures controls { length controls.now ≡ table.now.controls }
+    ensures fits { All (λ p. greatest_of table.now * greatest_amount (p.x ∷ p.y ∷ p.z ∷ []) ≤ number_bound) controls.now }
 {
+    assert!(rt; controls.len() == table.controls() as usize);
     let are_fit = controls.iter().all(|p| is_fit(table, p));
     assert!(rt; are_fit);
 }
 
-fn apply_by<L: Ledger>(
-    rt: &impl Abort,
+// Puts the sums of the rows from one on, then of those before it, in as many steps as the table has entries.
+fn apply_in_two<L: Ledger>(
     table: &StencilTable,
     controls: &[Point3],
-    range: (u32, u32),
-    out: &mut [Point3],
-    blank: Blank,
+    split: u32,
+    places: &mut [Point3],
+    steps: &mut Steps<L>,
 )
+    requires controls { length controls.now ≡ table.now.controls }
+    requires places { length places.old ≡ length table.now.rows }
+    requires inside { split ≤ length table.now.rows }
+    requires fits { All (λ p. greatest_of table.now * greatest_amount (p.x ∷ p.y ∷ p.z ∷ []) ≤ number_bound) controls.now }
+    ensures { steps.new ≡ steps.old + entries_of table.now.rows }
+{
+    ranges_cover_the_table();
+    let at = split as usize;
+    apply_range(
+        table,
+        controls,
+        split,
+        table.rows(),
+        &mut places[at..],
+        steps,
+    );
+    apply_range(table, controls, 0, split, &mut places[..at], steps);
+}
+
+// The sums are the same at once, from row 0 on, and in two ranges.
+fn expect_sums<L: Ledger>(rt: &impl Abort, table: &StencilTable, blank: Blank)
     requires name { blank.name ≡ L.name }
     requires parts { blank.parts ≡ L.parts }
     requires some { 0 < blank.parts }
 {
-    let (from, to) = range;
-    assert!(rt; controls.len() == table.controls() as usize);
-    assert!(rt; from <= to);
-    assert!(rt; to <= table.rows());
-    assert!(rt; out.len() == (to - from) as usize);
+    assert!(rt; table.rows() == 4);
+    let controls = corners();
     assert_fits(rt, table, controls);
     let mut steps = Steps::start(blank.open::<L>());
-    apply_range(table, controls, from, to, out, &mut steps);
-}
-
-// Puts the sums of a range of rows into the places of their numbers.
-pub fn apply_at(
-    rt: &impl Abort,
-    table: &StencilTable,
-    controls: &[Point3],
-    range: (u32, u32),
-    places: &mut [Point3],
-) {
-    let (from, to) = (range.0 as usize, range.1 as usize);
-    assert!(rt; from <= to);
-    assert!(rt; to <= places.len());
-    apply_by::<Brand>(
-        rt,
-        table,
-        controls,
-        range,
-        &mut places[from..to],
-        Blank::new(1),
-    );
-}
-
-// Places with other numbers get the sums, range by range.
-fn expect_sums(rt: &impl Abort, table: &StencilTable, ranges: &[(u32, u32)]) {
-    let mut places = [Point3 { x: 7, y: 7, z: 7 }; 4];
-    for range in ranges {
-        apply_at(rt, table, corners(), *range, &mut places);
+    for split in [0, 2, 4] {
+        let mut places = [Point3 { x: 7, y: 7, z: 7 }; 4];
+        apply_in_two(table, controls, split, &mut places, &mut steps);
+        expect_same(rt, &places.as_slice(), &sums(), &split);
     }
-    expect_same(rt, &places.as_slice(), &sums(), &ranges);
-}
-
-fn expect_sums_of_the_square(rt: &(impl Abort + AllocGlobal)) -> Result<(), Fail> {
-    let table = table_of(rt, rt.alloc(), square())?;
-    expect_sums(rt, &table, &[(0, 4)]);
-    expect_sums(rt, &table, &[(2, 4), (0, 2)]);
-    Ok(())
 }
 
 #[test]
 fn applies_rows_at_once_and_in_ranges(rt: HostRuntime) -> Result<(), Fail> {
-    expect_sums_of_the_square(&rt)
-}
-
-// Rows, an amount, and whether the greatest denominator times the amount is within the bound.
-type Scale = (&'static [Row], u128, bool);
-
-const SCALES: &[Scale] = &[
-    (SQUARE, (1 << 123) - 1, true),
-    (SQUARE, 1 << 123, false),
-    (&[], NUMBER_BOUND, true),
-    (&[], NUMBER_BOUND + 1, false),
-];
-
-fn scales() -> &'static [Scale] {
-    SCALES
-}
-
-fn expect_fit(rt: &(impl Abort + AllocGlobal), row: &Scale) -> Result<(), Fail> {
-    let &(rows, greatest, want) = row;
-    let table = table_of(rt, rt.alloc(), rows)?;
-    expect_same(rt, &scale_fits(&table, greatest), &want, row);
-    Ok(())
-}
-
-#[test]
-fn fits_up_to_the_bound(rt: HostRuntime) -> Result<(), Fail> {
-    for row in scales() {
-        expect_fit(&rt, row)?;
-    }
+    let table = table_of(&rt, rt.alloc(), square())?;
+    expect_sums::<Brand>(&rt, &table, Blank::new(1));
     Ok(())
 }

@@ -131,7 +131,6 @@ fn expect_sums_by<L: Ledger>(rt: &impl Abort, table: &StencilTable, case: &Sums,
     requires some { 0 < blank.parts }
 {
     let &(_, controls, width, sums) = case;
-    assert!(rt; controls.len() == table.controls() as usize);
     assert!(rt; sums.len() == table.rows() as usize);
     assert_fits(rt, table, controls);
     let mut steps = Steps::start(blank.open::<L>());

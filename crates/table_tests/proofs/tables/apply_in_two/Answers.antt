@@ -1,6 +1,6 @@
 use Rattle.std.proofs.Common.{length, arith}
 use Rattle.table_tests.proofs.StepLemmas.{in-two}
-use Rattle.table_tests.proofs.composed.apply_in_two.Goals as goal
+use Rattle.table_tests.proofs.tables.apply_in_two.Goals as goal
 
 pub returns : goal.returns
 returns g c =
