@@ -79,10 +79,14 @@ valued controls order level = record { written = level.faces; rows = evaluated (
 abbrev pub valued_entries : List ℕ → KeptLevel Table → ℕ
 valued_entries order level = entries_of (rows_at level.carried order).rows
 
+-- the values of level k, given the order of the first
+abbrev pub valued_level : List (List ℤ) → List ℕ → ℕ → KeptLevel Table → SparseRows
+valued_level controls first k level = valued controls (kept_order first k level) level
+
 -- the values of all levels, given the order of the first
 abbrev pub valued_from : List (List ℤ) → List ℕ → ℕ → List (KeptLevel Table) → List SparseRows
 valued_from controls first k [] = []
-valued_from controls first k (level ∷ levels) = valued controls (kept_order first k level) level ∷ valued_from controls first (suc k) levels
+valued_from controls first k (level ∷ levels) = valued_level controls first k level ∷ valued_from controls first (suc k) levels
 
 -- the number of entries of the rows of all levels' written points, given the order of the first
 abbrev pub entries_in : List ℕ → ℕ → List (KeptLevel Table) → ℕ

@@ -12,9 +12,13 @@ use Rattle.sparse_faces.specs.declared.values.SparseValues.{SparseValues}
 abbrev pub sparse_rows : {P : Type 0} → (P → List ℤ) → SparseValues P → SparseRows
 sparse_rows numbers level = record { written = level.faces; rows = rows_of numbers level.values.items }
 
+-- sparse levels with values as levels with rows
+abbrev pub all_rows : {P : Type 0} → (P → List ℤ) → List (SparseValues P) → List SparseRows
+all_rows numbers levels = map (sparse_rows numbers) levels
+
 -- the values are those of the sparse levels up to a depth
 abbrev pub AreValuesTo : {P : Type 0} → (P → List ℤ) → Channel → Meeting → List P → ℕ → List (SparseValues P) → Type 0
-AreValuesTo numbers channel meeting controls depth levels = AreSparseLevels channel meeting (control_rows (map numbers controls)) depth (map (sparse_rows numbers) levels)
+AreValuesTo numbers channel meeting controls depth levels = AreSparseLevels channel meeting (control_rows (map numbers controls)) depth (all_rows numbers levels)
 
 -- the values are those of the sparse levels for the predicate of a test
 abbrev pub AreSparseValuesTo : {P : Type 0} → (P → List ℤ) → (FaceFacts → Bool) → Channel → List P → ℕ → List (SparseValues P) → Type 0

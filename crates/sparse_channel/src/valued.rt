@@ -1,8 +1,8 @@
 //! The values of the written points of sparse levels.
 
 ghost use Rattle.std.specs.Prelude.{◌≡◌, ◌+◌, ◌≤◌, [], ◌∷◌, ◌++◌, length, map, IfOk, OnOk};
-ghost use Rattle.sparse_channel.specs.Composed.{CanValue, CanValueAll, kept_order, valued, valued_entries, valued_from, entries_in};
-ghost use Rattle.sparse_channel.specs.View.{sparse_rows};
+ghost use Rattle.sparse_channel.specs.Composed.{CanValue, CanValueAll, kept_order, valued, valued_level, valued_entries, valued_from, entries_in};
+ghost use Rattle.sparse_channel.specs.View.{sparse_rows, all_rows};
 
 use crate::rows::evaluate_rows;
 use channel_refine::evaluate;
@@ -58,7 +58,7 @@ fn level_values<P: Primvar<L>, L: Ledger>(
     steps: &mut Steps<L>,
 ) -> Result<SparseValues<P>, Memory>
     requires { CanValue (map P.numbers controls.now) (kept_order first.now before level) level }
-    ensures values { IfOk result (λ made. sparse_rows P.numbers made ≡ valued (map P.numbers controls.now) (kept_order first.now before level) level) }
+    ensures values { IfOk result (λ made. sparse_rows P.numbers made ≡ valued_level (map P.numbers controls.now) first.now before level) }
     ensures steps { steps.new ≤ steps.old + valued_entries (kept_order first.now before level) level }
     ensures later { steps.old ≤ steps.new }
 {
@@ -73,20 +73,20 @@ fn level_values<P: Primvar<L>, L: Ledger>(
 fn push_values<P: Primvar<L>, L: Ledger>(
     alloc: Global,
     level: KeptLevel<StencilTable>,
-    levels: &mut Vec<SparseValues<P>>,
+    made: &mut Vec<SparseValues<P>>,
     first: &[u32],
     controls: &[P],
     steps: &mut Steps<L>,
 ) -> Result<(), Memory>
-    requires { CanValue (map P.numbers controls.now) (kept_order first.now (length levels.old.items) level) level }
-    ensures values { OnOk result (map (sparse_rows P.numbers) levels.new.items ≡ map (sparse_rows P.numbers) levels.old.items ++ valued (map P.numbers controls.now) (kept_order first.now (length levels.old.items) level) level ∷ []) }
-    ensures count { OnOk result (length levels.new.items ≡ length levels.old.items + 1) }
-    ensures steps { steps.new ≤ steps.old + valued_entries (kept_order first.now (length levels.old.items) level) level }
+    requires { CanValue (map P.numbers controls.now) (kept_order first.now (length made.old.items) level) level }
+    ensures values { OnOk result (all_rows P.numbers made.new.items ≡ all_rows P.numbers made.old.items ++ valued_level (map P.numbers controls.now) first.now (length made.old.items) level ∷ []) }
+    ensures count { OnOk result (length made.new.items ≡ length made.old.items + 1) }
+    ensures steps { steps.new ≤ steps.old + valued_entries (kept_order first.now (length made.old.items) level) level }
     ensures later { steps.old ≤ steps.new }
 {
-    let before = levels.len();
+    let before = made.len();
     let value = level_values(alloc, level, before, first, controls, steps)?;
-    levels.push(value)?;
+    made.push(value)?;
     Ok(())
 }
 
@@ -99,7 +99,7 @@ pub(crate) fn all_values<P: Primvar<L>, L: Ledger>(
     steps: &mut Steps<L>,
 ) -> Result<Vec<SparseValues<P>>, Memory>
     requires { CanValueAll (map P.numbers controls.now) first.now kept.items }
-    ensures values { IfOk result (λ levels. map (sparse_rows P.numbers) levels.items ≡ valued_from (map P.numbers controls.now) first.now 0 kept.items) }
+    ensures values { IfOk result (λ levels. all_rows P.numbers levels.items ≡ valued_from (map P.numbers controls.now) first.now 0 kept.items) }
     ensures steps { steps.new ≤ steps.old + entries_in first.now 0 kept.items }
     ensures later { steps.old ≤ steps.new }
 {

@@ -3,12 +3,12 @@ use Rattle.std.proofs.lemmas.Iterator.Adapters.{YieldsList-from_vec}
 use Rattle.std.proofs.lemmas.Iterator.Consumers.{YieldsList-turn, YieldsList-end}
 use Rattle.std.proofs.lemmas.List.{length_push, take_all}
 use Rattle.sparse_channel.specs.Composed.{valued_from, entries_in}
-use Rattle.sparse_channel.specs.View.{sparse_rows}
+use Rattle.sparse_channel.specs.View.{all_rows}
 use Rattle.sparse_channel.proofs.ListedLemmas.{entries-taken, entries-more, values-more, next-can}
 use Rattle.sparse_channel.proofs.valued.all_values.Goals as goal
 
 pub loop-level-init : goal.loop-level-init
-loop-level-init g c = record { values = ap (map (sparse_rows g.P.Primvar.numbers)) c.in_ok-levels.ensures.items; count = ap length c.in_ok-levels.ensures.items; most = omega arith; later = omega arith }
+loop-level-init g c = record { values = ap (all_rows g.P.Primvar.numbers) c.in_ok-levels.ensures.items; count = ap length c.in_ok-levels.ensures.items; most = omega arith; later = omega arith }
 
 pub push_values-requires : goal.push_values-requires
 push_values-requires g c =

@@ -1,12 +1,12 @@
 use Rattle.std.proofs.Common.{◌≡◌, ◌+◌, ◌≤◌, map, length, take}
 use Rattle.sparse_channel.specs.Composed.{valued_from, entries_in}
-use Rattle.sparse_channel.specs.View.{sparse_rows}
+use Rattle.sparse_channel.specs.View.{all_rows}
 use Rattle.sparse_channel.proofs.valued.all_values.Given as goal
 
 -- the levels so far
 abbrev pub invariant-loop-level : goal.invariant-loop-level
 invariant-loop-level g l = record {
-  values : map (sparse_rows g.P.Primvar.numbers) l.levels.items ≡ valued_from (map g.P.Primvar.numbers l.controls) l.first 0 (take (length l.yielded) l.fn.kept.items);
+  values : all_rows g.P.Primvar.numbers l.levels.items ≡ valued_from (map g.P.Primvar.numbers l.controls) l.first 0 (take (length l.yielded) l.fn.kept.items);
   count : length l.levels.items ≡ length l.yielded;
   most : l.steps ≤ l.fn.steps + entries_in l.first 0 (take (length l.yielded) l.fn.kept.items);
   later : l.fn.steps ≤ l.steps;
