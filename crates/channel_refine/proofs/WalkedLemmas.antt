@@ -105,7 +105,7 @@ module _ {C V : Type 0} (rows : C → List Row) (Takes : V → Topology → C �
     stopped-at : (depth k : ℕ) (last : Place Topology C V) (new : ℕ) → k < depth → Walked k last → (cause : Cause)
         → IsCause (λ t. t) IsMade IsRefused Follow Fail last.reached cause last.steps new → Stopped depth (k + 1) cause new
     stopped-at depth k last new within is cause (inl refused) = (
-      first.first-of-level Values tt channel k is.0.none last.reached.level is.0.level.level (dens_of (rows last.reached.carried)) is.0.dens depth within cause refused.is,
+      first.first-of-level Values tt channel k is.0.none last.reached.level is.0.level (dens_of (rows last.reached.carried)) is.0.dens depth within cause refused.is,
       (
         bound k depth new last.reached.level last.steps within is.0.level is.1.1 (omega (arith, refused.steps.most)),
         omega (arith, is.1.0, refused.steps.later),
@@ -116,7 +116,7 @@ module _ {C V : Type 0} (rows : C → List Row) (Takes : V → Topology → C �
         let dens = dens_of (rows last.reached.carried) in
         let terms = terms-here k t left.child is.0.level left.made.refined in
         let taken : AreTermSteps t.level channel.scheme left.child.origins left.level_steps new = of-channel (λ _ s. AreTermSteps t.level s left.child.origins left.level_steps new) left.fails.1 in (
-          first.first-of-carried Values tt channel k is.0.none t is.0.level.level dens is.0.dens depth within left.child left.made.refined _
+          first.first-of-carried Values tt channel k is.0.none t is.0.level dens is.0.dens depth within left.child left.made.refined _
               (dens-are t left.child left.made.refined channel.scheme dens) 0 refl cause
               (of-channel (λ m s. IsValueCause m t.level s left.child.origins (rows last.reached.carried) cause) left.fails.0),
           (
@@ -129,7 +129,7 @@ module _ {C V : Type 0} (rows : C → List Row) (Takes : V → Topology → C �
         let made = without.made in
         let terms = terms-here k t made.child is.0.level made.made.refined in
         let taken : new ≡ made.level_steps + step_terms t.level channel.scheme made.child.origins = of-channel (λ _ s. new ≡ made.level_steps + step_terms t.level s made.child.origins) made.followed.1 in (
-          subst (IsLevelFault Values channel depth (k + 1)) (sym without.memory) tt,
+          first.first-of-memory Values tt channel k is.0.none t is.0.level (dens_of (rows last.reached.carried)) is.0.dens depth within cause without.memory,
           (
             bound k depth new t last.steps within is.0.level is.1.1 (omega (arith, made.made.steps.most, taken, terms)),
             omega (arith, is.1.0, made.made.steps.later, taken),

@@ -74,7 +74,7 @@ module _ {V : Type 0} (Takes : V → Topology → Table → V → Type 0) (chann
     stopped-at : (depth k : ℕ) (last : Place Topology Table V) (new : ℕ) → k < depth → Walked k last → (cause : Cause)
         → IsCause (λ t. t) IsMade IsRefused Follow Fail last.reached cause last.steps new → Stopped depth (k + 1) cause new
     stopped-at depth k last new within is cause (inl refused) = (
-      first.first-of-level Tables tt channel k is.0.none last.reached.level is.0.level.level (dens_of last.reached.carried) is.0.dens depth within cause refused.is,
+      first.first-of-level Tables tt channel k is.0.none last.reached.level is.0.level (dens_of last.reached.carried) is.0.dens depth within cause refused.is,
       (
         bound k depth new last.reached.level last.steps within is.0.level is.1.1 (omega (arith, refused.steps.most)),
         omega (arith, is.1.0, refused.steps.later),
@@ -83,7 +83,7 @@ module _ {V : Type 0} (Takes : V → Topology → Table → V → Type 0) (chann
     stopped-at depth k last new within is cause (inr (inl left)) =
         let t = last.reached.level in
         let table = last.reached.carried in (
-          first.first-of-carried Tables tt channel k is.0.none t is.0.level.level (dens_of table) is.0.dens depth within left.child left.made.refined _
+          first.first-of-carried Tables tt channel k is.0.none t is.0.level (dens_of table) is.0.dens depth within left.child left.made.refined _
               (dens-are t left.child left.made.refined channel.scheme (dens_of table)) (entries_from t.level channel.scheme left.child.origins table)
               (entries-fault channel k t table is.0 left.child left.made.refined) cause
               (of-channel (λ m s. IsTableCause m t.level s left.child.origins table cause) left.fails.0),
@@ -94,7 +94,7 @@ module _ {V : Type 0} (Takes : V → Topology → Table → V → Type 0) (chann
         )
     stopped-at depth k last new within is cause (inr (inr without)) =
         let made = without.made in (
-          subst (IsLevelFault Tables channel depth (k + 1)) (sym without.memory) tt,
+          first.first-of-memory Tables tt channel k is.0.none last.reached.level is.0.level (dens_of last.reached.carried) is.0.dens depth within cause without.memory,
           (
             bound k depth new last.reached.level last.steps within is.0.level is.1.1 (omega (arith, made.made.steps.most, made.followed.1)),
             omega (arith, is.1.0, made.made.steps.later, made.followed.1),

@@ -11,10 +11,10 @@ use Rattle.level_walk.specs.declared.fault.Cause.{Cause}
 use Rattle.level_walk.specs.declared.fault.WalkFault.{WalkFault}
 use Rattle.level_walk.specs.Round.{IsCause}
 use Rattle.level_walk.specs.Walk.{Place, LeadsTo, IsWalked, IsStopped}
-use Rattle.uniform_walk.specs.Faults.{IsLevelFault}
+use Rattle.uniform_walk.specs.Faults.{IsLevelFault, Reaches}
 use Rattle.uniform_walk.specs.Levels.{AreMade, faces_to}
 use Rattle.uniform_walk.specs.Step.{IsLevelCause, IsMade, IsRefused}
-use Rattle.uniform_walk.proofs.FaultLemmas.{none-made, refused-first}
+use Rattle.uniform_walk.proofs.FaultLemmas.{reaches-made, memory-next, refused-first}
 use Rattle.uniform_walk.proofs.LevelLemmas.{IsReached, reached-none, reached-next, faces-next, faces-within}
 use Rattle.level_counts.specs.Counts.{Counts, counts_of}
 
@@ -27,12 +27,16 @@ counts-more base k level old new is before put =
     ∙ ap (λ (level : Level). map (λ n. counts_of (refined_level base n)) (range_with_len 0 k) ++ counts_of level ∷ []) is
     ∙ sym (map-range_with_len_more (λ n. counts_of (refined_level base n)) 0 k k (omega arith))
 
+-- each channel over the same level 0 reaches the level
+reaches : (base : Level) (k : ℕ) (t : Topology) → IsReached base k t → (channel : Channel) → channel.base ≡ base → Reaches Sharpnesses channel k
+reaches base k t is channel same = reaches-made channel k (subst (λ level. AreMade level k) (sym same) is.made)
+
 -- the level cannot be made, and so it has the first fault of each channel with that level 0
 first-fault : (base : Level) (depth k : ℕ) (t : Topology) (cause : Cause) → IsReached base k t → k < depth → IsLevelCause t.level cause
     → (channel : Channel) → channel.base ≡ base → IsLevelFault Sharpnesses channel depth (k + 1) cause
 first-fault base depth k t cause is within refused channel same =
     let here : t.level ≡ refined_level channel.base k = is.level ∙ ap (λ (level : Level). refined_level level k) (sym same) in
-    refused-first Sharpnesses channel k (none-made channel k (subst (λ level. AreMade level k) (sym same) is.made)) t.level here depth within cause refused
+    refused-first Sharpnesses channel k (reaches base k t is channel same) t.level here depth within cause refused
 
 module _ {C V : Type 0} (counted : V → List Counts) (start : Place Topology C V) where
   abbrev base : Level
@@ -90,7 +94,7 @@ module _ {C V : Type 0} (counted : V → List Counts) (start : Place Topology C 
     )
     stopped-at depth k last new within is cause (inr (inl left)) = absurd left.fails
     stopped-at depth k last new within is cause (inr (inr without)) = (
-      λ channel same. subst (IsLevelFault Sharpnesses channel depth (k + 1)) (sym without.memory) tt,
+      λ channel same. memory-next Sharpnesses channel k depth cause within (reaches base k last.reached.level is.0 channel same) without.memory,
       (
         bound k depth new last within is (omega (arith, without.made.made.steps.most, without.made.followed)),
         omega (arith, is.1.1.0, without.made.made.steps.later, without.made.followed),

@@ -14,10 +14,10 @@ use Rattle.level_walk.specs.declared.fault.WalkFault.{WalkFault}
 use Rattle.level_walk.specs.Round.{IsCause}
 use Rattle.level_walk.specs.Walk.{Place, LeadsTo, IsWalked, IsStopped}
 use Rattle.uniform_refiner.specs.Refined.{IsRefined}
-use Rattle.uniform_walk.specs.Faults.{IsLevelFault}
+use Rattle.uniform_walk.specs.Faults.{IsLevelFault, Reaches}
 use Rattle.uniform_walk.specs.Levels.{AreMade, faces_to}
 use Rattle.uniform_walk.specs.Step.{IsLevelCause, IsMade, IsRefused}
-use Rattle.uniform_walk.proofs.FaultLemmas.{none-made, refused-first}
+use Rattle.uniform_walk.proofs.FaultLemmas.{reaches-made, memory-next, refused-first}
 use Rattle.uniform_walk.proofs.LevelLemmas.{IsReached, reached-none, reached-next, faces-next, faces-within}
 use Rattle.level_origins.specs.Origins.{Origins, base_origins, next_origins, origins_to}
 use Rattle.level_origins.specs.Child.{AreOrigins, child_origins}
@@ -38,12 +38,16 @@ origins-more base k t child old new over is refined before made =
     made ∙ uniform-origins t child old refined.uniform each (subst P (sym is) (levels-over-points base (suc k) over))
     ∙ ap (λ l. next_origins l old) is ∙ ap (next_origins (refined_level base k)) before
 
+-- each channel over the same level 0 reaches the level
+reaches : (base : Level) (k : ℕ) (t : Topology) → IsReached base k t → (channel : Channel) → channel.base ≡ base → Reaches Sharpnesses channel k
+reaches base k t is channel same = reaches-made channel k (subst (λ level. AreMade level k) (sym same) is.made)
+
 -- the level cannot be made, and so it has the first fault of each channel with that level 0
 first-fault : (base : Level) (depth k : ℕ) (t : Topology) (cause : Cause) → IsReached base k t → k < depth → IsLevelCause t.level cause
     → (channel : Channel) → channel.base ≡ base → IsLevelFault Sharpnesses channel depth (k + 1) cause
 first-fault base depth k t cause is within refused channel same =
     let here : t.level ≡ refined_level channel.base k = is.level ∙ ap (λ (level : Level). refined_level level k) (sym same) in
-    refused-first Sharpnesses channel k (none-made channel k (subst (λ level. AreMade level k) (sym same) is.made)) t.level here depth within cause refused
+    refused-first Sharpnesses channel k (reaches base k t is channel same) t.level here depth within cause refused
 
 module _ {C V : Type 0} (seen : C → Origins) (Takes : V → Topology → C → V → Type 0) (start : Place Topology C V) where
   abbrev base : Level
@@ -99,14 +103,14 @@ module _ {C V : Type 0} (seen : C → Origins) (Takes : V → Topology → C →
       (bound k depth new last within is refused.steps.most, omega (arith, is.1.1.0, refused.steps.later)),
     )
     stopped-at depth k last new within is cause (inr (inl left)) = (
-      λ channel same. subst (IsLevelFault Sharpnesses channel depth (k + 1)) (sym left.fails.0) tt,
+      λ channel same. memory-next Sharpnesses channel k depth cause within (reaches base k last.reached.level is.0 channel same) left.fails.0,
       (
         bound k depth new last within is (omega (arith, left.made.steps.most, left.fails.1)),
         omega (arith, is.1.1.0, left.made.steps.later, left.fails.1),
       ),
     )
     stopped-at depth k last new within is cause (inr (inr without)) = (
-      λ channel same. subst (IsLevelFault Sharpnesses channel depth (k + 1)) (sym without.memory) tt,
+      λ channel same. memory-next Sharpnesses channel k depth cause within (reaches base k last.reached.level is.0 channel same) without.memory,
       (
         bound k depth new last within is (omega (arith, without.made.made.steps.most, without.made.followed.1)),
         omega (arith, is.1.1.0, without.made.made.steps.later, without.made.followed.1),

@@ -163,15 +163,15 @@ module _ (mesh : ObjMesh) (level : Topology) (depth first : ℕ) (found : Option
 module _ (asked : Asked) (channel : Channel) (mesh : ObjMesh) (depth : ℕ) (few : first_of (level_count_faults mesh.faces depth) ≡ None)
     (same : (n : ℕ) → faces_after channel.base.polygons n ≡ faces_after mesh.faces n) where
   -- no level whose number was checked before is too large
-  not-too-large : (k count : ℕ) → IsTooLarge asked channel depth k count → ⊥
-  not-too-large k count fault =
-      few-not-large mesh.faces depth (k - 1) (omega (arith, fault.after_level_0, fault.within)) few
+  not-too-large : (k count : ℕ) → k ≤ depth → IsTooLarge channel k count → ⊥
+  not-too-large k count within fault =
+      few-not-large mesh.faces depth (k - 1) (omega (arith, fault.after_level_0, within)) few
       (subst (λ c. 2 ^ 22 < c) (fault.count_is ∙ next-count channel.base (k - 1) ∙ same (suc (k - 1))) fault.many)
 
   -- the fault of the walk is the first of the channel
   pub found-of-walk : (track : Track) (level : ℕ) (cause : Cause) → IsLevelFault asked channel depth level cause →
       IsFound (fault_at track level cause) (first_of (channel_faults asked channel track depth))
-  found-of-walk track level (TooManyFaces count) is = absurd (not-too-large level count is)
-  found-of-walk track level (Overflow kind) is = is track
-  found-of-walk track level TooManyEntries is = is track
-  found-of-walk track level Memory is = tt
+  found-of-walk track level (TooManyFaces count) fault = absurd (not-too-large level count fault.within fault.is)
+  found-of-walk track level (Overflow kind) fault = fault.is.first track
+  found-of-walk track level TooManyEntries fault = fault.is.first track
+  found-of-walk track level Memory fault = tt

@@ -1,9 +1,8 @@
 -- The faults of the levels of a track: the first of all is the first of the first level that has one.
-use Rattle.std.proofs.Common.{◌≡◌, ℕ, zero, suc, ◌+◌, ◌-◌, ◌^◌, ◌<◌, Bool, true, false, ◌||◌, List, [], ◌∷◌, ◌++◌, length, Some, None, arith, refl, ap, ◌∙◌, subst}
+use Rattle.std.proofs.Common.{◌≡◌, ℕ, zero, suc, ◌+◌, ◌-◌, ◌^◌, ◌<◌, ◌≤◌, Bool, true, false, ◌||◌, List, [], ◌∷◌, ◌++◌, length, Some, None, arith, refl, ap, sym, ◌∙◌, subst}
 use Rattle.std.specs.List.{flat_map, list_any, range_with_len, sum_by}
 use Rattle.subdiv_model.specs.Lists.{first_of}
 use Rattle.subdiv_model.specs.Level.{Level}
-use Rattle.subdiv_model.specs.Child.{refined_level}
 use Rattle.subdiv_model.specs.Fault.{Fault, Overflow, Track, ChaikinOverflow}
 use Rattle.subdiv_model.specs.Channel.{Channel, TrackLevels, Asked, Sharpnesses, fault_where, chaikin_overflows_at, at_some_point, channel_level, has_chaikin_overflow, asked_faults, level_faults, track_faults, channel_faults, whole_levels}
 use Rattle.level_walk.specs.declared.fault.Cause.{Cause}
@@ -11,7 +10,7 @@ use Rattle.level_walk.specs.declared.fault.Cause.TheVariants as cause
 use Rattle.level_walk.specs.declared.fault.OverflowKind.TheVariants as kind
 use Rattle.uniform_walk.specs.Levels.{AreMade}
 use Rattle.uniform_walk.specs.Step.{IsLevelCause}
-use Rattle.uniform_walk.specs.Faults.{IsTooLarge, IsLevelFault}
+use Rattle.uniform_walk.specs.Faults.{faces_next, Reaches, IsFirstFault, IsCauseAt, IsLevelFault}
 
 -- the first of two lists, one after the other
 pub first-here : {X : Type 0} (xs ys : List X) (x : X) → first_of xs ≡ Some x → first_of (xs ++ ys) ≡ Some x
@@ -27,6 +26,23 @@ pub flat-none : {X : Type 0} (f : ℕ → List X) (a n : ℕ) → ((k : ℕ) →
 flat-none f a zero none = refl
 flat-none f a (suc n) none =
     ap (λ xs. xs ++ flat_map f (range_with_len (a + 1) n)) (none a (omega arith)) ∙ flat-none f (a + 1) n (λ k h. none k (omega (arith, h)))
+
+-- a list without items has none in any part
+no-parts : {X : Type 0} (xs ys : List X) → xs ++ ys ≡ [] → (xs ≡ []) × (ys ≡ [])
+no-parts [] ys h = (refl, h)
+no-parts (x ∷ xs) ys h = absurd (cc)
+
+none-each : {X : Type 0} (f : ℕ → List X) (a n gap : ℕ) → gap < n → flat_map f (range_with_len a n) ≡ [] → f (a + gap) ≡ []
+none-each f a zero gap within none = absurd (omega (arith, within))
+none-each f a (suc n) zero within none = ap f (plus-none a) ∙ (no-parts (f a) (flat_map f (range_with_len (a + 1) n)) none).0
+  where
+    plus-none : (n : ℕ) → n + 0 ≡ n
+    plus-none n = omega arith
+none-each f a (suc n) (suc gap) within none =
+    ap f (moved a gap) ∙ none-each f (a + 1) n gap (omega (arith, within)) (no-parts (f a) (flat_map f (range_with_len (a + 1) n)) none).1
+  where
+    moved : (a gap : ℕ) → a + suc gap ≡ a + 1 + gap
+    moved a gap = omega arith
 
 -- the first item comes from the first number of the range with a list that is not empty
 pub flat-first : {X : Type 0} (f : ℕ → List X) (a n gap : ℕ) (x : X) → gap < n → ((j : ℕ) → j < a + gap → f j ≡ []) → first_of (f (a + gap)) ≡ Some x →
@@ -93,6 +109,10 @@ none-where : (b : Bool) (fault : Fault) → b ≡ false → fault_where b fault 
 none-where true fault h = absurd (cc)
 none-where false fault h = refl
 
+first-where : (b : Bool) (fault : Fault) (others : List Fault) → b ≡ true → first_of (fault_where b fault ++ others) ≡ Some fault
+first-where true fault others h = refl
+first-where false fault others h = absurd (cc)
+
 -- levels that were made have no fault
 pub none-made : (channel : Channel) (depth : ℕ) → AreMade channel.base depth → (track : Track) (k : ℕ) → k < depth → level_faults Sharpnesses (whole_levels channel) track k ≡ []
 none-made channel depth made track k h =
@@ -103,42 +123,78 @@ none-made channel depth made track k h =
 pub no-fault-made : (channel : Channel) (depth : ℕ) → AreMade channel.base depth → (track : Track) → channel_faults Sharpnesses channel track depth ≡ []
 no-fault-made channel depth made track = none-of-levels Sharpnesses (whole_levels channel) track depth (none-made channel depth made track)
 
--- The next level cannot be made, and the levels before it have no fault of the kinds that count.
+-- a channel whose levels were made reaches the last of them
+pub reaches-made : (channel : Channel) (level : ℕ) → AreMade channel.base level → Reaches Sharpnesses channel level
+reaches-made channel level made = record { few = λ k h. (made k h).few; fine = no-fault-made channel level made }
 
-first-where : (b : Bool) (fault : Fault) (others : List Fault) → b ≡ true → first_of (fault_where b fault ++ others) ≡ Some fault
-first-where true fault others h = refl
-first-where false fault others h = absurd (cc)
+-- The fault of the level that a channel does not reach.
 
-module _ (asked : Asked) (channel : Channel) (k : ℕ) (none : (track : Track) (j : ℕ) → j < k → level_faults asked (whole_levels channel) track j ≡ [])
+one-more : (k : ℕ) → suc k ≡ k + 1
+one-more k = omega arith
+
+one-less : (k : ℕ) → k ≡ k + 1 - 1
+one-less k = omega arith
+
+pub fault-next : (asked : Asked) (channel : Channel) (k depth : ℕ) (why : Cause) → k < depth → Reaches asked channel k → IsCauseAt asked channel depth (k + 1) why
+    → IsLevelFault asked channel depth (k + 1) why
+fault-next asked channel k depth why within reaches is = record {
+  within = omega (arith, within);
+  before = subst (Reaches asked channel) (one-less k) reaches;
+  is = is;
+}
+
+-- the level has few faces, but a fault of the kinds that count
+pub first-next : (asked : Asked) (channel : Channel) (k depth : ℕ) (fault : Track → ℕ → Fault) → faces_next channel k ≤ 2 ^ 22
+    → ((track : Track) → first_of (channel_faults asked channel track depth) ≡ Some (fault track (suc k))) → IsFirstFault asked channel depth (k + 1) (λ track. fault track (k + 1))
+first-next asked channel k depth fault few first = record {
+  few = subst (λ n. faces_next channel n ≤ 2 ^ 22) (one-less k) few;
+  first = λ track. first track ∙ ap (λ n. Some (fault track n)) (one-more k);
+}
+
+-- memory runs out on the way to the level, or outside of the walk
+pub memory-next : (asked : Asked) (channel : Channel) (k depth : ℕ) (why : Cause) → k < depth → Reaches asked channel k → why ≡ cause.Memory
+    → IsLevelFault asked channel depth (k + 1) why
+memory-next asked channel k depth why within reaches same =
+    subst (IsLevelFault asked channel depth (k + 1)) (sym same) (fault-next asked channel k depth cause.Memory within reaches tt)
+
+pub memory-outside : (asked : Asked) (channel : Channel) (depth : ℕ) → IsLevelFault asked channel depth 0 cause.Memory
+memory-outside asked channel depth = record {
+  within = omega arith;
+  before = record { few = λ k h. absurd (omega (arith, h)); fine = λ track. refl };
+  is = tt;
+}
+
+-- the next level cannot be made
+module _ (asked : Asked) (channel : Channel) (k : ℕ) (reaches : Reaches asked channel k)
     (level : Level) (here : level ≡ channel_level channel k) (depth : ℕ) (within : k < depth) where
-  named : suc k ≡ k + 1
-  named = omega arith
+  none : (track : Track) (j : ℕ) → j < k → level_faults asked (whole_levels channel) track j ≡ []
+  none track j h =
+      ap (level_faults asked (whole_levels channel) track) (sym (zero-plus j))
+      ∙ none-each (level_faults asked (whole_levels channel) track) 0 k j h (reaches.fine track)
 
-  before : k ≡ k + 1 - 1
-  before = omega arith
-
-  large : (count : ℕ) → count ≡ sum_by length level.polygons → 2 ^ 22 < count → IsTooLarge asked channel depth (k + 1) count
-  large count is_count many = record {
-    after_level_0 = omega arith;
-    within = omega (arith, within);
-    fine = λ track. subst (λ m. channel_faults asked channel track m ≡ []) before (none-of-levels asked (whole_levels channel) track k (none track));
-    count_is = is_count ∙ ap (λ (some : Level). sum_by length some.polygons) (here ∙ ap (refined_level channel.base) before);
-    many = many;
-  }
+  faces-here : sum_by length level.polygons ≡ faces_next channel k
+  faces-here = ap (λ (some : Level). sum_by length some.polygons) here
 
   chaikin : (v : ℕ) → v < level.point_count → chaikin_overflows_at level v ≡ true → has_chaikin_overflow (whole_levels channel) k ≡ true
   chaikin v exists overflows =
       subst (λ some. at_some_point (chaikin_overflows_at some) some ≡ true) here (any-from-0 (chaikin_overflows_at level) level.point_count v exists overflows)
 
-  pub refused-first : (cause : Cause) → IsLevelCause level cause → IsLevelFault asked channel depth (k + 1) cause
-  refused-first (cause.TooManyFaces count) is = large count is.0 is.1
-  refused-first (cause.Overflow kind.Chaikin) is = λ track.
+  cause-next : (why : Cause) → IsLevelCause level why → IsCauseAt asked channel depth (k + 1) why
+  cause-next (cause.TooManyFaces count) is = record {
+    after_level_0 = omega arith;
+    count_is = is.0 ∙ faces-here ∙ ap (faces_next channel) (one-less k);
+    many = is.1;
+  }
+  cause-next (cause.Overflow kind.Chaikin) is =
+      first-next asked channel k depth (λ track n. Overflow track n ChaikinOverflow) (omega (arith, faces-here, is.few)) (λ track.
       first-of-levels asked (whole_levels channel) track k depth (Overflow track (suc k) ChaikinOverflow) within (none track)
       (first-where (has_chaikin_overflow (whole_levels channel) k) (Overflow track (suc k) ChaikinOverflow) (asked_faults asked (whole_levels channel) track k)
-      (chaikin is.v is.exists is.overflows))
-      ∙ ap (λ m. Some (Overflow track m ChaikinOverflow)) named
-  refused-first (cause.Overflow kind.Transition) is = absurd is
-  refused-first (cause.Overflow kind.Denominator) is = absurd is
-  refused-first (cause.Overflow kind.Value) is = absurd is
-  refused-first cause.TooManyEntries is = absurd is
-  refused-first cause.Memory is = tt
+      (chaikin is.v is.exists is.overflows)))
+  cause-next (cause.Overflow kind.Transition) is = absurd is
+  cause-next (cause.Overflow kind.Denominator) is = absurd is
+  cause-next (cause.Overflow kind.Value) is = absurd is
+  cause-next cause.TooManyEntries is = absurd is
+  cause-next cause.Memory is = tt
+
+  pub refused-first : (why : Cause) → IsLevelCause level why → IsLevelFault asked channel depth (k + 1) why
+  refused-first why is = fault-next asked channel k depth why within reaches (cause-next why is)

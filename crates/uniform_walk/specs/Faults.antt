@@ -10,31 +10,41 @@ use Rattle.subdiv_model.specs.Channel.{Channel, Asked, Sharpnesses, channel_leve
 use Rattle.level_walk.specs.View.{kind_of}
 use Rattle.level_walk.specs.declared.fault.Cause.{Cause}
 use Rattle.level_walk.specs.declared.fault.Cause.TheVariants.{TooManyFaces, Overflow, TooManyEntries, Memory}
-use Rattle.level_walk.specs.declared.fault.OverflowKind.{OverflowKind}
 use Rattle.level_walk.specs.declared.fault.WalkFault.{WalkFault}
 
--- the level has too many faces, and the levels before it have no fault of the kinds that count
-pub record IsTooLarge (asked : Asked) (channel : Channel) (depth level count : ℕ) : Type 0 where
+-- the number of faces of the level after k + 1 steps: one for each corner of the level before
+abbrev pub faces_next : Channel → ℕ → ℕ
+faces_next channel k = sum_by length (channel_level channel k).polygons
+
+-- no level from 1 to this one has too many faces, or a fault of the kinds that count
+pub record Reaches (asked : Asked) (channel : Channel) (level : ℕ) : Type 0 where
+  pub few : (k : ℕ) → k < level → faces_next channel k ≤ 2 ^ 22
+  pub fine : (track : Track) → channel_faults asked channel track level ≡ []
+
+-- the level has this number of faces, and it is too many
+pub record IsTooLarge (channel : Channel) (level count : ℕ) : Type 0 where
   pub after_level_0 : 1 ≤ level
-  pub within : level ≤ depth
-  pub fine : (track : Track) → channel_faults asked channel track (level - 1) ≡ []
-  pub count_is : count ≡ sum_by length (channel_level channel (level - 1)).polygons
+  pub count_is : count ≡ faces_next channel (level - 1)
   pub many : 2 ^ 22 < count
 
--- This is the first fault of the levels to a depth, of the kinds that count. It does not depend on the name of the track.
-abbrev pub IsFirstFault : Asked → Channel → ℕ → (Track → Fault) → Type 0
-IsFirstFault asked channel depth fault = (track : Track) → first_of (channel_faults asked channel track depth) ≡ Some (fault track)
+-- The level is within the bound of faces, and this is the first fault of the levels to a depth, of the kinds that count. It
+-- does not depend on the name of the track.
+pub record IsFirstFault (asked : Asked) (channel : Channel) (depth level : ℕ) (fault : Track → Fault) : Type 0 where
+  pub few : faces_next channel (level - 1) ≤ 2 ^ 22
+  pub first : (track : Track) → first_of (channel_faults asked channel track depth) ≡ Some (fault track)
 
--- the first fault is a number that exceeds its bound at a level
-abbrev pub IsFirstOverflow : Asked → Channel → ℕ → ℕ → OverflowKind → Type 0
-IsFirstOverflow asked channel depth level kind = IsFirstFault asked channel depth (λ track. model.Overflow track level (kind_of kind))
+-- the cause that the level is not reached; memory may run out at any level
+abbrev pub IsCauseAt : Asked → Channel → ℕ → ℕ → Cause → Type 0
+IsCauseAt asked channel depth level (TooManyFaces count) = IsTooLarge channel level count
+IsCauseAt asked channel depth level (Overflow kind) = IsFirstFault asked channel depth level (λ track. model.Overflow track level (kind_of kind))
+IsCauseAt asked channel depth level TooManyEntries = IsFirstFault asked channel depth level (λ track. model.TooLarge (model.Entries level))
+IsCauseAt asked channel depth level Memory = Unit {0}
 
--- this level is the first that is not reached, and this is the cause; memory may run out at any level
-abbrev pub IsLevelFault : Asked → Channel → ℕ → ℕ → Cause → Type 0
-IsLevelFault asked channel depth level (TooManyFaces count) = IsTooLarge asked channel depth level count
-IsLevelFault asked channel depth level (Overflow kind) = IsFirstOverflow asked channel depth level kind
-IsLevelFault asked channel depth level TooManyEntries = IsFirstFault asked channel depth (λ track. model.TooLarge (model.Entries level))
-IsLevelFault asked channel depth level Memory = Unit {0}
+-- The channel reaches the level before this one, and this is the cause that it does not reach this one.
+pub record IsLevelFault (asked : Asked) (channel : Channel) (depth level : ℕ) (cause : Cause) : Type 0 where
+  pub within : level ≤ depth
+  pub before : Reaches asked channel (level - 1)
+  pub is : IsCauseAt asked channel depth level cause
 
 -- the fault of a channel that does not reach a depth
 abbrev pub IsChannelFault : Asked → Channel → ℕ → WalkFault → Type 0
