@@ -9,8 +9,7 @@ Each kind of run has texts of its own:
   face, which mostly has one;
 - meshes with places of a face that are mapped to their leaves, and textured meshes with their sparse levels;
 - sheets that the program makes itself;
-- inputs with moves, of `random_frames.py`, and with stored tables, of `random_tables.py`; and two inputs with a table, cut
-  after each of their bytes, which are the same for every seed.
+- inputs with moves, of `random_frames.py`; with stored tables, of `random_tables.py`; and cut ones, of `cut_inputs.py`.
 
 Other kinds compare answers of the program with each other, on other meshes without fault:
 
@@ -43,11 +42,12 @@ from itertools import islice
 from pathlib import Path
 from typing import Callable, Iterable, Iterator
 
+from cut_inputs import cut_inputs
 from draws import Draws
 from paths import PROGRAM, TOP
 from random_frames import Frames
 from random_meshes import Meshes
-from random_tables import Tables, cut_inputs
+from random_tables import Tables
 from reference import reference
 from reference.continued_refinement import refinement_goes_on
 from reference.level import Level
@@ -455,7 +455,7 @@ def kinds_of_runs(arguments: argparse.Namespace, lasting_texts: list[bytes]) -> 
     checked = (tables.mesh_with_table() for _ in range(arguments.tables))
     yield "meshes with their tables", ((["verify", f"depth={depth}"], data) for depth, data in checked)
     yield "tables with points", ((["apply"], tables.table_with_points()) for _ in range(arguments.tables))
-    yield "cut tables", cut_inputs()
+    yield "cut inputs", cut_inputs()
 
 
 def compared_with_itself(arguments: argparse.Namespace, lasting_texts: list[bytes]) -> Iterator[bool]:

@@ -5,7 +5,6 @@ meshes, some are small and drawn, and many have a few bytes changed. The same se
 from __future__ import annotations
 
 import re
-from typing import Iterator
 
 from draws import Draws
 from random_meshes import Meshes
@@ -19,15 +18,7 @@ ODD_NUMBERS = ["", "00", "01", "-1", "+1", "1.0", "x", "9" * 39, "9" * 1000, str
 ODD_COUNTS = ["0", str(2**20), str(2**20 + 1), str(2**27), str(2**27 + 1), str(2**32), "9" * 60]
 ODD_BYTES = [b"\n", b" ", b"\t", b"\r", b"#", b"0", b"s", b"\xff", b"\x00"]
 BEHIND = [b"\n", b" ", b"s 1 0 1\n", b"# x\n", b"table controls 0 rows 0 entries 0\n", b"v 0 0 0"]
-SQUARE = b"v 0 0 0\nv 4 0 0\nv 4 4 0\nv 0 4 0\nf 1 2 3 4\n"
 TABLE_LINES = [b"table\n", b" table controls 1 rows 0 entries 0\n", b"table # x\n", b"tables\n", b"#table\n", b"table\\\n"]
-
-
-def cut_inputs() -> Iterator[tuple[list[str], bytes]]:
-    """Words, and an input with the stored table of a square, cut after each of its bytes."""
-    table = table_text(mesh_of(SQUARE), 1).encode()
-    for words, text in ((["verify", "depth=1"], SQUARE + table), (["apply"], table + SQUARE)):
-        yield from ((words, text[:place]) for place in range(len(text) + 1))
 
 
 class Tables(Draws):
