@@ -222,7 +222,6 @@ DOCUMENT_PLACES = [
 TEST_PLACES = [
     Place("cases/*/*/words", "a case that runs it", r"\A<name>\n", without="cases/words/*/words"),
     Place("cases/words/*/words", "a case whose options are refused", r"\A<name>\n"),
-    Place("crates/far_tests/src/runs.rt", "a whole run, in `RUNS`", "^" + ROW_OF_RUN),
     Place(
         "crates/far_tests/src/hostile.rt",
         "one whose sink fails, in `WRITES`",

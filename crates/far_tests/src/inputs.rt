@@ -6,19 +6,9 @@ pub const TRIANGLES_REFINED: &str =
     "v 5 5 0\nv 2 5 0\nv 5 2 0\nv 4 4 0\nv 4 4 0\nv 5 2 0\nv 5 5 0\nv 2 5 0\nf 1 6 4 8\nf 2 7 4 6\nf 3 8 4 7\n\
     f 1 8 5 6\nf 3 7 5 8\nf 2 6 5 7\n";
 
-// The cube whose coordinates have this amount.
-macro_rules! cube_of {
-    ($n:literal) => {
-        concat!("v -", $n, " -", $n, " ", $n, "\nv ", $n, " -", $n, " ", $n, "\nv -", $n, " ", $n, " ", $n, "\nv ", $n, " ", $n, " ", $n,
-            "\nv -", $n, " ", $n, " -", $n, "\nv ", $n, " ", $n, " -", $n, "\nv -", $n, " -", $n, " -", $n, "\nv ", $n, " -", $n, " -", $n,
-            "\nf 1 2 4 3\nf 3 4 6 5\nf 5 6 8 7\nf 7 8 2 1\nf 2 8 6 4\nf 7 1 3 5\n")
-    };
-}
-
-pub const CUBE: &str = cube_of!("1");
-
-// One more than the greatest amount that can be refined once.
-pub const GREATER_CUBE: &str = cube_of!("2363071992506517107384545884942834802");
+pub const CUBE: &str =
+    "v -1 -1 1\nv 1 -1 1\nv -1 1 1\nv 1 1 1\nv -1 1 -1\nv 1 1 -1\nv -1 -1 -1\nv 1 -1 -1\nf 1 2 4 3\nf 3 4 6 5\n\
+    f 5 6 8 7\nf 7 8 2 1\nf 2 8 6 4\nf 7 1 3 5\n";
 
 pub const CUBE_REFINED: &str =
     "v -5/9 -5/9 5/9\nv 5/9 -5/9 5/9\nv -5/9 5/9 5/9\nv 5/9 5/9 5/9\nv -5/9 5/9 -5/9\nv 5/9 5/9 -5/9\n\
@@ -31,12 +21,26 @@ pub const CUBE_REFINED: &str =
 
 pub const SQUARE: &str = "v 0 0 0\nv 4 0 0\nv 4 4 0\nv 0 4 0\nf 1 2 3 4\n";
 
+// The square with sharp corners.
+pub const SHARP_SQUARE: &str =
+    "v 0 0 0\nv 4 0 0\nv 4 4 0\nv 0 4 0\nf 1 2 3 4\nt interpolateboundary 1/0/0 1\n";
+
 // The square, and a move of one of its points.
 pub const MOVED_SQUARE: &str =
     "v 0 0 0\nv 4 0 0\nv 4 4 0\nv 0 4 0\nf 1 2 3 4\nframes\nmove 2 8 8 0\ngo\n";
 
 pub const MOVED_SQUARE_ANSWER: &str =
     "frame 6\np 1 4 1 0\np 2 13/2 13/2 0\np 3 1 4 0\np 4 3 3 0\np 6 6 4 0\np 7 4 6 0\n";
+
+// The square, and moves of its points. The last one is too fine.
+pub const MOVES: &str =
+    "v 0 0 0\nv 4 0 0\nv 4 4 0\nv 0 4 0\nf 1 2 3 4\nframes\nmove 2 8 8 0\ngo\ngo # again\n\
+    move 0 1 1 0\nmove 0 0 0 1\ngo\nmove 1 0.5 0 0\n";
+
+// The answers of the three lines `go`.
+pub const MOVES_ANSWERS: &str =
+    "frame 6\np 1 4 1 0\np 2 13/2 13/2 0\np 3 1 4 0\np 4 3 3 0\np 6 6 4 0\np 7 4 6 0\nframe 0\nframe 6\n\
+    p 0 1/2 1/2 3/4\np 1 4 1 1/8\np 3 1 4 1/8\np 4 3 3 1/4\np 5 2 0 1/2\np 8 0 2 1/2\n";
 
 // The table of the square after one step.
 pub const SQUARE_TABLE: &str = "\
@@ -55,10 +59,7 @@ pub const SQUARE_TABLE: &str = "\
 pub const SQUARE_AND_TABLE: &str = "v 0 0 0\nv 4 0 0\nv 4 4 0\nv 0 4 0\nf 1 2 3 4\n\
     table controls 4 rows 4 entries 4\ns 1 0 1\ns 1 1 1\ns 1 2 1\ns 1 3 1\n";
 
-// A table of one row, which has a quarter of the second control point.
-pub const QUARTER_TABLE: &str = "table controls 2 rows 1 entries 2\ns 4 0 3 1 1\n";
-
-// This table before two points.
+// A table of one row, which has a quarter of the second control point, before two points.
 pub const QUARTER_AND_POINTS: &str =
     "table controls 2 rows 1 entries 2\ns 4 0 3 1 1\nv 0 0 0\nv 4 8 1\n";
 
@@ -126,11 +127,6 @@ pub const TWO_CHARTS_LEVEL: &str =
 pub const CUBE_LEAVES: &str =
     "p 0 0 level 1 face 0 corner 0 at 0 0\np 1 0 level 1 face 1 corner 0 at 0 0\n\
     p 0 1 level 1 face 3 corner 0 at 0 0\np 1 1 level 1 face 2 corner 0 at 0 0\n";
-
-// The two charts. The first corner of the second has a great texture value.
-pub const GREAT_CHART: &str =
-    "v 0 0 0\nv 1 0 0\nv 1 1 0\nv 0 1 0\nv 2 0 0\nv 2 1 0\nvt 0 0\nvt 1 0\nvt 1 1\nvt 0 1\nvt 1e36 0\nvt 5 0\n\
-    vt 5 1\nvt 4 1\nf 1/1 2/2 3/3 4/4\nf 2/5 5/6 6/7 3/8\n";
 
 pub const REFINE: &str = "refine depth=1";
 

@@ -1,8 +1,6 @@
-//! Tests the program: whole runs, their words, their limits, and streams that fail in the middle.
+//! Tests the program: its words, and streams that fail in the middle of a run.
 #![tactic(auto)]
 
-#[cfg(test)]
-mod ends;
 #[cfg(test)]
 mod engine;
 #[cfg(test)]
@@ -12,10 +10,6 @@ mod hostile;
 #[cfg(test)]
 mod inputs;
 #[cfg(test)]
-mod limits;
-#[cfg(test)]
 mod moves;
-#[cfg(test)]
-mod runs;
 #[cfg(test)]
 mod words;
