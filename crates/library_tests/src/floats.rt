@@ -59,27 +59,34 @@ fn finds_the_nearest(rt: HostRuntime) {
     for row in nearest() {
         let &(num, den, double, float) = row;
         assert!(rt; 0 < den && den < 1 << 127 && num.unsigned_abs() < 1 << 127);
-        expect_same(&rt, &nearest_binary64(num, den), &double, row);
-        expect_same(&rt, &nearest_binary32(num, den), &float, row);
+        let given = (nearest_binary64(num, den), nearest_binary32(num, den));
+        expect_same(&rt, &given, &(double, float), row);
     }
 }
 
-const WIDE: Result<(i128, u128), FloatFault> = Err(FloatFault::TooWide);
+// The fraction of these terms.
+macro_rules! fraction {
+    ($num:expr, $den:expr) => {
+        Ok(Frac { num: $num, den: $den })
+    };
+}
 
-const NO_NUMBER: Result<(i128, u128), FloatFault> = Err(FloatFault::NotFinite);
+const WIDE: Result<Frac, FloatFault> = Err(FloatFault::TooWide);
+
+const NO_NUMBER: Result<Frac, FloatFault> = Err(FloatFault::NotFinite);
 
 // The bits of a binary64 number, and its fraction.
-type Exact = (u64, Result<(i128, u128), FloatFault>);
+type Exact = (u64, Result<Frac, FloatFault>);
 
 const DOUBLES: &[Exact] = &[
-    (0, Ok((0, 1))),
-    (0x8000_0000_0000_0000, Ok((0, 1))),
-    (0x3ff8_0000_0000_0000, Ok((3, 2))),
-    (0xbfb9_9999_9999_999a, Ok((-3602879701896397, 1 << 55))),
-    (0x3810_0000_0000_0000, Ok((1, 1 << 126))),
+    (0, fraction!(0, 1)),
+    (0x8000_0000_0000_0000, fraction!(0, 1)),
+    (0x3ff8_0000_0000_0000, fraction!(3, 2)),
+    (0xbfb9_9999_9999_999a, fraction!(-3602879701896397, 1 << 55)),
+    (0x3810_0000_0000_0000, fraction!(1, 1 << 126)),
     (0x3800_0000_0000_0000, WIDE),
     (1, WIDE),
-    (0x47df_ffff_ffff_ffff, Ok((((1 << 53) - 1) << 74, 1))),
+    (0x47df_ffff_ffff_ffff, fraction!(((1 << 53) - 1) << 74, 1)),
     (0x47e0_0000_0000_0000, WIDE),
     (0x7fef_ffff_ffff_ffff, WIDE),
     (0x7ff0_0000_0000_0000, NO_NUMBER),
@@ -90,27 +97,23 @@ fn doubles() -> &'static [Exact] {
     DOUBLES
 }
 
-fn terms(fraction: Frac) -> (i128, u128) {
-    (fraction.num, fraction.den)
-}
-
 #[test]
 fn reads_doubles(rt: HostRuntime) {
     for row in doubles() {
         let &(bits, want) = row;
-        expect_same(&rt, &exact_binary64(bits).map(terms), &want, row);
+        expect_same(&rt, &exact_binary64(bits), &want, row);
     }
 }
 
 // The bits of a binary32 number, and its fraction.
-type ExactFloat = (u32, Result<(i128, u128), FloatFault>);
+type ExactFloat = (u32, Result<Frac, FloatFault>);
 
 const FLOATS: &[ExactFloat] = &[
-    (0x3dcc_cccd, Ok((13421773, 1 << 27))),
-    (0x0080_0000, Ok((1, 1 << 126))),
+    (0x3dcc_cccd, fraction!(13421773, 1 << 27)),
+    (0x0080_0000, fraction!(1, 1 << 126)),
     (0x0040_0000, WIDE),
     (0xff00_0000, WIDE),
-    (0x7eff_ffff, Ok((((1 << 24) - 1) << 103, 1))),
+    (0x7eff_ffff, fraction!(((1 << 24) - 1) << 103, 1)),
     (0xff80_0000, NO_NUMBER),
 ];
 
@@ -122,28 +125,21 @@ fn floats() -> &'static [ExactFloat] {
 fn reads_floats(rt: HostRuntime) {
     for row in floats() {
         let &(bits, want) = row;
-        expect_same(&rt, &exact_binary32(bits).map(terms), &want, row);
+        expect_same(&rt, &exact_binary32(bits), &want, row);
     }
 }
 
 #[test]
-fn reads_a_list(rt: HostRuntime) -> Result<(), Fail> {
+fn reads_lists(rt: HostRuntime) -> Result<(), Fail> {
+    let infinite = exact_binary64s(
+        rt.alloc(),
+        &[0, 0x7ff0_0000_0000_0000, 0x7ff8_0000_0000_0000],
+    )
+    .err();
+    let refused = Some(ListFault::At(1, FloatFault::NotFinite));
+    expect_same(&rt, &infinite, &refused, &"an infinity at place 1");
     let found = exact_binary64s(rt.alloc(), &[0x3fe0_0000_0000_0000, 0xbff0_0000_0000_0000])?;
     let want = [Frac { num: 1, den: 2 }, Frac { num: -1, den: 1 }];
     expect_same(&rt, &found.as_slice(), &want.as_slice(), &"two numbers");
     Ok(())
-}
-
-#[test]
-fn names_the_first_refused(rt: HostRuntime) {
-    let found = exact_binary64s(
-        rt.alloc(),
-        &[0, 0x7ff0_0000_0000_0000, 0x7ff8_0000_0000_0000],
-    );
-    expect_same(
-        &rt,
-        &found.err(),
-        &Some(ListFault::At(1, FloatFault::NotFinite)),
-        &"an infinity at place 1",
-    );
 }

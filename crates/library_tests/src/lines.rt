@@ -2,54 +2,57 @@
 
 use crate::expect::expect_same;
 use obj_text::{line_end, words_of};
-use std::alloc::Global;
-use std::test::Fail;
+use std::process::Abort;
 
 #[test]
 fn ends_lines(rt: HostRuntime) {
     let text = b"v 1\n\nf";
-    for (at, end) in [(0, 3), (3, 3), (4, 4), (5, 6), (6, 6)] {
-        assert_eq!(rt; line_end(text, at), end, "from {at}");
-    }
-    assert_eq!(rt; line_end(b"", 0), 0);
-}
-
-// The words of a line, each after a `|`.
-fn words_text(alloc: Global, line: &[u8]) -> Result<Vec<u8>, Fail> {
-    let mut text = Vec::new(alloc);
-    for word in words_of(line) {
-        text.push(b'|')?;
-        text.extend_from_slice(word)?;
-    }
-    Ok(text)
+    let ends = (
+        line_end(text, 0),
+        line_end(text, 3),
+        line_end(text, 4),
+        line_end(text, 5),
+        line_end(text, 6),
+    );
+    expect_same(&rt, &ends, &(3, 3, 4, 6, 6), &"a text of three lines");
 }
 
 // Lines, each with its words.
-const LINES: &[(&'static str, &'static str)] = &[
-    ("", ""),
-    (" \t\r ", ""),
-    ("v 1 2 3", "|v|1|2|3"),
-    ("  v\t1 \t 2\r3\r", "|v|1|2|3"),
-    ("# all", ""),
-    ("#", ""),
-    ("f 1 # 2", "|f|1"),
-    ("f 1 #2 3", "|f|1"),
-    ("f x# y", "|f|x#|y"),
-    ("f x#y #", "|f|x#y"),
-    ("v \\", "|v|\\"),
-    ("a\x0bb\x0cc\0d", "|a\x0bb\x0cc\0d"),
+type Line = (&'static str, &'static [&'static str]);
+
+const LINES: &[Line] = &[
+    ("", &[]),
+    (" \t\r ", &[]),
+    ("v 1 2 3", &["v", "1", "2", "3"]),
+    ("  v\t1 \t 2\r3\r", &["v", "1", "2", "3"]),
+    ("# all", &[]),
+    ("#", &[]),
+    ("f 1 # 2", &["f", "1"]),
+    ("f 1 #2 3", &["f", "1"]),
+    ("f x# y", &["f", "x#", "y"]),
+    ("f x#y #", &["f", "x#y"]),
+    ("v \\", &["v", "\\"]),
+    ("a\x0bb\x0cc\0d", &["a\x0bb\x0cc\0d"]),
 ];
 
-fn lines() -> &'static [(&'static str, &'static str)] {
+fn lines() -> &'static [Line] {
     LINES
 }
 
-#[test]
-fn splits_lines_into_words(rt: HostRuntime) -> Result<(), Fail> {
-    for row in lines() {
-        let &(line, words) = row;
-        let text = words_text(rt.alloc(), line.as_bytes())?;
-        expect_same(&rt, &text.as_slice(), &words.as_bytes(), row);
+// The line has these words. No word is empty.
+fn expect_words(rt: &impl Abort, line: &str, words: &[&str]) {
+    let mut count: usize = 0;
+    for word in words_of(line.as_bytes()) {
+        let want = words.get(count).copied().unwrap_or("");
+        expect_same(rt, &word, &want.as_bytes(), &line);
+        count = count.saturating_add(1);
     }
-    Ok(())
+    expect_same(rt, &count, &words.len(), &line);
+}
+
+#[test]
+fn splits_lines_into_words(rt: HostRuntime) {
+    for &(line, words) in lines() {
+        expect_words(&rt, line, words);
+    }
 }

@@ -1,11 +1,11 @@
-// OBJ texts: their faults, and the meshes that they give.
+// OBJ texts: their faults, and the mesh that one gives.
 
 use crate::expect::expect_same;
 use obj_tags::{ObjCause, ObjFault, ReadFault, read_obj};
 use obj_text::NumeralFault;
-use ratio128::{Point2, Point3};
-use raw_mesh::{Boundary, CornerTag, Crease, RawMesh};
-use sharpness_rules::{Method, SharpOverflow, Sharpness};
+use ratio128::Point3;
+use raw_mesh::{BadPart, PartsFault};
+use sharpness_rules::SharpOverflow;
 use std::process::Abort;
 use std::test::Fail;
 
@@ -111,153 +111,38 @@ fn names_the_line_and_the_cause(rt: HostRuntime) -> Result<(), Fail> {
     Ok(())
 }
 
-const FRACTIONS: &[u8] = b"v 5/9 -1/3 2\nv 0.5 0 1/7 1/11\nvt 1/3 0.25\nt corner 1/1/0 1 6/4\n";
-
-fn fractions() -> &'static [u8] {
-    FRACTIONS
-}
-
-// The mesh of a short text.
-fn mesh_of(rt: &(impl Abort + AllocGlobal), text: &[u8]) -> Result<RawMesh, ReadFault> {
-    assert!(rt; text.len() < 1000);
-    read_obj(rt.alloc(), text, 0)
-}
-
-fn expect_fractions(rt: &impl Abort, mesh: &RawMesh) {
-    let points = [
-        Point3 {
-            x: 70,
-            y: -42,
-            z: 252,
-        },
-        Point3 { x: 63, y: 0, z: 18 },
-    ];
-    let corner = CornerTag {
-        vertex: 1,
-        sharpness: Sharpness::new(3, 2),
-    };
-    let value = Point2 { u: 4, v: 3 };
-    expect_same(rt, &mesh.scale(), &126, &"the denominator");
-    expect_same(rt, &mesh.points(), &points.as_slice(), &"points");
-    expect_same(rt, &mesh.texture_scale(), &12, &"that of texture");
-    expect_same(rt, &mesh.texture().first(), &Some(&value), &"texture");
-    expect_same(rt, &mesh.corner_tags().first(), &Some(&corner), &"a corner");
-}
-
-fn expect_mesh_of_fractions(rt: &(impl Abort + AllocGlobal)) -> Result<(), Fail> {
-    let mesh = mesh_of(rt, fractions())?;
-    expect_fractions(rt, &mesh);
-    Ok(())
-}
-
-#[test]
-fn keeps_fractions_over_common_denominators(rt: HostRuntime) -> Result<(), Fail> {
-    expect_mesh_of_fractions(&rt)
-}
-
 // A point of a fraction, a whole number and a decimal, over a multiple of 10^2.
-fn expect_multiple(rt: &(impl Abort + AllocGlobal)) -> Result<(), Fail> {
+#[test]
+fn keeps_points_over_a_multiple_of_a_power_of_ten(rt: HostRuntime) -> Result<(), Fail> {
     let mesh = read_obj(rt.alloc(), b"v 1/3 0 0.125", 2)?;
     let point = Point3 {
         x: 200,
         y: 0,
         z: 75,
     };
-    expect_same(rt, &mesh.scale(), &600, &"the denominator");
-    expect_same(rt, &mesh.points().first(), &Some(&point), &"a point");
-    Ok(())
-}
-
-#[test]
-fn keeps_points_over_a_multiple_of_a_power_of_ten(rt: HostRuntime) -> Result<(), Fail> {
-    expect_multiple(&rt)
-}
-
-const TAGGED: &[u8] =
-    b"v 0 0 0.50\nv 1 0 0\r\nv 0 -1e1 0\nvt 1 .25\nvt 2\nf 1/1 -2/2 3/-1\nt crease 3/2/0 0 2 1 0.5 11\nt corner 2/1/0 0 1 3\nt hole 1/0/0 0\nt interpolateboundary 1/0/0 01\nt creasemethod 0/0/1 chaikin\n";
-
-fn tagged() -> &'static [u8] {
-    TAGGED
-}
-
-fn expect_channels(rt: &impl Abort, mesh: &RawMesh) {
-    let point = Point3 { x: 0, y: -20, z: 0 };
-    let value = Point2 { u: 4, v: 1 };
-    expect_same(rt, &mesh.scale(), &2, &"the denominator");
-    expect_same(rt, &mesh.points().get(2), &Some(&point), &"a point");
-    expect_same(rt, &mesh.texture_scale(), &4, &"that of texture");
-    expect_same(
-        rt,
-        &mesh.texture().first(),
-        &Some(&value),
-        &"a value of texture",
-    );
-}
-
-fn expect_faces(rt: &impl Abort, mesh: &RawMesh) {
-    assert_eq!(rt; mesh.faces(), 1);
-    assert!(rt; mesh.has_texture());
-    expect_same(rt, &mesh.face(0), &[0, 1, 2].as_slice(), &"vertices");
-    expect_same(
-        rt,
-        &mesh.texture_corners(0),
-        &[0, 1, 1].as_slice(),
-        &"texture",
-    );
-}
-
-fn expect_tags(rt: &impl Abort, mesh: &RawMesh) {
-    let crease = Crease {
-        a: 2,
-        b: 1,
-        sharpness: Sharpness::Infinite,
-    };
-    let corner = CornerTag {
-        vertex: 1,
-        sharpness: Sharpness::new(3, 1),
-    };
-    expect_same(rt, &mesh.creases().len(), &2, &"the number of creases");
-    expect_same(rt, &mesh.creases().get(1), &Some(&crease), &"a crease");
-    expect_same(rt, &mesh.corner_tags().get(1), &Some(&corner), &"a corner");
-    expect_same(rt, &mesh.holes(), &[0].as_slice(), &"holes");
-    expect_same(
-        rt,
-        &mesh.boundary(),
-        &Boundary::EdgeAndCorner,
-        &"the boundary",
-    );
-    expect_same(rt, &mesh.method(), &Method::Chaikin, &"the method");
-}
-
-fn expect_mesh_of_tags(rt: &(impl Abort + AllocGlobal)) -> Result<(), Fail> {
-    let mesh = mesh_of(rt, tagged())?;
-    expect_channels(rt, &mesh);
-    expect_faces(rt, &mesh);
-    expect_tags(rt, &mesh);
-    Ok(())
-}
-
-#[test]
-fn keeps_channels_faces_and_tags(rt: HostRuntime) -> Result<(), Fail> {
-    expect_mesh_of_tags(&rt)
-}
-
-fn expect_names(rt: &(impl Abort + AllocGlobal)) -> Result<(), Fail> {
-    let bad = NumeralFault::BadNumeral;
-    let range = NumeralFault::NumberRange;
-    let fault = ReadFault::Obj(ObjFault {
-        line: 3,
-        cause: ObjCause::ShortLine,
-    });
-    let memory = ReadFault::Memory;
-    let text = format!(in rt.alloc(); "{bad}; {range}; {SharpOverflow}; {fault}; {memory}")?;
-    let want =
-        "bad numeral; number out of range; a denominator passes 2^60; line 3: line too short; out of memory";
-    expect_same(rt, &text.as_str(), &want, &"faults");
+    let given = (mesh.scale(), mesh.points().first());
+    expect_same(&rt, &given, &(600, Some(&point)), &"a point");
     Ok(())
 }
 
 #[test]
 fn names_faults(rt: HostRuntime) -> Result<(), Fail> {
-    expect_names(&rt)
+    let fault = ReadFault::Obj(ObjFault {
+        line: 3,
+        cause: ObjCause::ShortLine,
+    });
+    let text = format!(in rt.alloc();
+        "{}; {}; {SharpOverflow}; {fault}; {}; {}; {}; {}",
+        NumeralFault::BadNumeral,
+        NumeralFault::NumberRange,
+        ReadFault::Memory,
+        PartsFault::Bad(BadPart::Corner(2)),
+        BadPart::TextureScale,
+        PartsFault::Memory
+    )?;
+    let want =
+        "bad numeral; number out of range; a denominator passes 2^60; line 3: line too short; out of memory; \
+        corner 2 names no point; the scale of the texture values is not from 1 to 10^37; out of memory";
+    expect_same(&rt, &text.as_str(), &want, &"faults");
+    Ok(())
 }

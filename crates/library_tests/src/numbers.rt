@@ -1,11 +1,7 @@
-// Whole numbers, fractions, and the counter of steps.
-
-ghost use Rattle.std.specs.Prelude.{◌≡◌, ◌+◌, ◌<◌};
+// Whole numbers and fractions.
 
 use crate::expect::expect_same;
-use ratio128::{Steps, gcd, lcm_within, lowest, times_within};
-use std::marker::Brand;
-use std::sync::ledger::{Blank, Ledger};
+use ratio128::{gcd, lcm_within, lowest, times_within};
 
 // Two numbers and their greatest common divisor.
 const DIVISORS: &[(u128, u128, u128)] = &[
@@ -52,17 +48,17 @@ fn reduces(rt: HostRuntime) {
 }
 
 // Two numbers and a bound; their least common multiple and their product, if they are within it.
-type Bounded = (u128, u128, u128, Option<u128>, Option<u128>);
+type Bounded = (u128, u128, u128, (Option<u128>, Option<u128>));
 
 const TOP: u128 = u128::MAX;
 
 const BOUNDED: &[Bounded] = &[
-    (4, 6, 12, Some(12), None),
-    (4, 6, 11, None, None),
-    (4, 6, 24, Some(12), Some(24)),
-    (TOP, TOP, TOP, Some(TOP), None),
-    (TOP, TOP - 1, TOP, None, None),
-    (1 << 64, 1 << 63, 1 << 127, Some(1 << 64), Some(1 << 127)),
+    (4, 6, 12, (Some(12), None)),
+    (4, 6, 11, (None, None)),
+    (4, 6, 24, (Some(12), Some(24))),
+    (TOP, TOP, TOP, (Some(TOP), None)),
+    (TOP, TOP - 1, TOP, (None, None)),
+    (1 << 64, 1 << 63, 1 << 127, (Some(1 << 64), Some(1 << 127))),
 ];
 
 fn bounded() -> &'static [Bounded] {
@@ -72,31 +68,9 @@ fn bounded() -> &'static [Bounded] {
 #[test]
 fn keeps_within_a_bound(rt: HostRuntime) {
     for row in bounded() {
-        let &(a, b, bound, multiple, product) = row;
+        let &(a, b, bound, want) = row;
         assert!(rt; 0 < a && 0 < b);
-        expect_same(&rt, &lcm_within(a, b, bound), &multiple, row);
-        expect_same(&rt, &times_within(a, b, bound), &product, row);
+        let given = (lcm_within(a, b, bound), times_within(a, b, bound));
+        expect_same(&rt, &given, &want, row);
     }
-    expect_same(&rt, &times_within(0, TOP, 0), &Some(0), &"no amount");
-}
-
-// A counter has no reader, so the contract states its steps.
-fn step_twice<L: Ledger>(steps: &mut Steps<L>)
-    ensures { steps.new ≡ steps.old + 2 }
-{
-    steps.tick();
-    steps.tick();
-}
-
-fn count_from<L: Ledger>(blank: Blank)
-    requires name { blank.name ≡ L.name }
-    requires parts { blank.parts ≡ L.parts }
-    requires some { 0 < blank.parts }
-{
-    step_twice(&mut Steps::start(blank.open::<L>()));
-}
-
-#[test]
-fn counts() {
-    count_from::<Brand>(Blank::new(1));
 }

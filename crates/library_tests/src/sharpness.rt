@@ -32,35 +32,6 @@ fn sharpness_of(rt: &impl Abort, named: Named) -> Sharpness {
 // The greatest denominator.
 const TOP: u64 = 1 << 60;
 
-// A fraction, and the same fraction in lowest terms.
-type Reduced = ((u64, u64), (u64, u64));
-
-const SEMI_SHARP: &[Reduced] = &[
-    ((6, 4), (3, 2)),
-    ((1, TOP), (1, TOP)),
-    ((10 * TOP - 1, TOP), (10 * TOP - 1, TOP)),
-];
-
-fn semi_sharp() -> &'static [Reduced] {
-    SEMI_SHARP
-}
-
-fn fraction_of(value: &Sharpness) -> Option<(u64, u64)> {
-    match value {
-        Sharpness::Semi(value) => Some((value.num(), value.den())),
-        _ => None,
-    }
-}
-
-#[test]
-fn makes_semi_sharp_fractions(rt: HostRuntime) {
-    for row in semi_sharp() {
-        let &((num, den), want) = row;
-        let made = sharpness_of(&rt, Of(num, den));
-        expect_same(&rt, &fraction_of(&made), &Some(want), row);
-    }
-}
-
 // A sharpness and its uniform child. Smooth and infinite ones do not change, even if they are made from a fraction.
 const UNIFORM: &[(Named, Named)] = &[
     (Of(0, 7), Smooth),
@@ -111,12 +82,12 @@ fn makes_chaikin_children(rt: HostRuntime) {
     for row in halves() {
         let &(first, second, want) = row;
         let ring = [sharpness_of(&rt, first), sharpness_of(&rt, second)];
-        let (first, second) = match want {
+        let want = match want {
             Some((first, second)) => (Ok(sharpness_of(&rt, first)), Ok(sharpness_of(&rt, second))),
             None => (Err(SharpOverflow), Err(SharpOverflow)),
         };
-        expect_same(&rt, &chaikin_child(&ring, 0), &first, row);
-        expect_same(&rt, &chaikin_child(&ring, 1), &second, row);
+        let given = (chaikin_child(&ring, 0), chaikin_child(&ring, 1));
+        expect_same(&rt, &given, &want, row);
     }
 }
 
@@ -165,9 +136,9 @@ fn tells_rules(rt: HostRuntime) {
     for row in rules() {
         let &(edges, want) = row;
         let ring = ring_of(&rt, edges);
-        expect_same(&rt, &vertex_rule(Sharpness::Smooth, &ring), &want, row);
-        let sharp = vertex_rule(Sharpness::new(1, 2), &ring);
-        expect_same(&rt, &sharp, &Rule::Corner, row);
+        let smooth = vertex_rule(Sharpness::Smooth, &ring);
+        let sharp = vertex_rule(Sharpness::Infinite, &ring);
+        expect_same(&rt, &(smooth, sharp), &(want, Rule::Corner), row);
     }
     let no_edge = vertex_rule(Sharpness::Smooth, &[]);
     expect_same(&rt, &no_edge, &Rule::Corner, &"no edge");
@@ -249,28 +220,11 @@ fn takes_long_rings(rt: HostRuntime) -> Result<(), Fail> {
     let child = chaikin_child(&same, 65_535);
     let rule = vertex_rule(Sharpness::Smooth, &none);
     let weight = transition_weight(Sharpness::new(1, 3), Sharpness::Smooth, &same, &none);
-    expect_same(&rt, &child, &Ok(Sharpness::new(2, 3)), &"the child");
-    expect_same(&rt, &rule, &Rule::Smooth, &"the rule");
-    expect_same(&rt, &weight, &Ok(Weight { num: 1, den: 1 }), &"the weight");
-    Ok(())
-}
-
-// The common denominator of the numbers up to a thousand exceeds 2^60 early.
-#[test]
-fn takes_many_denominators(rt: HostRuntime) {
-    let mut ring = [Sharpness::Smooth; 1000];
-    let none = ring;
-    for (i, edge) in ring.iter_mut().enumerate() {
-        *edge = Sharpness::new(1, i as u64 + 1);
-    }
-    let weight = transition_weight(Sharpness::Smooth, Sharpness::Smooth, &ring, &none);
-    let rule = vertex_rule(Sharpness::Smooth, &ring);
-    expect_same(
-        &rt,
-        &chaikin_child(&ring, 999),
-        &Err(SharpOverflow),
-        &"the child",
+    let want = (
+        Ok(Sharpness::new(2, 3)),
+        Rule::Smooth,
+        Ok(Weight { num: 1, den: 1 }),
     );
-    expect_same(&rt, &weight, &Err(SharpOverflow), &"the weight");
-    expect_same(&rt, &rule, &Rule::Corner, &"the rule");
+    expect_same(&rt, &(child, rule, weight), &want, &"long rings");
+    Ok(())
 }
