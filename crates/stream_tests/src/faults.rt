@@ -1,6 +1,6 @@
 // The lines and the statuses of the faults of runs.
 
-use crate::expect::{expect_answer, expect_same};
+use crate::expect::expect_same;
 use crate::failing::failing_sink;
 use far_fault::{
     FarFault, LimitCause, OverflowKind, PlaceFault, TableCause, Track, report, status,
@@ -175,10 +175,10 @@ fn faults() -> &'static [Fault] {
 // The status of a fault, the line that `report` writes, and the text of the fault.
 fn expect_reported(rt: &(impl Abort + AllocGlobal), row: &Fault) -> Result<(), Fail> {
     let (fault, number, text) = row;
-    expect_same(rt, &status(fault), number, row);
     let mut errors = SureSink::with_room(rt.alloc(), 64)?;
-    let given = report(fault, &mut errors);
-    expect_answer(rt, &given, errors.bytes(), (&Ok(()), text.as_bytes()), row);
+    let answer = report(fault, &mut errors);
+    let given = (status(fault), answer, errors.bytes());
+    expect_same(rt, &given, &(*number, Ok(()), text.as_bytes()), row);
     Ok(())
 }
 
@@ -242,8 +242,8 @@ fn reports() -> &'static [Report] {
 fn expect_report(rt: &(impl Abort + AllocGlobal), row: &Report) -> Result<(), Fail> {
     let &(fault, room, call, answer, held) = row;
     let mut errors = failing_sink(rt.alloc(), room, call)?;
-    let given = report(&fault, &mut errors);
-    expect_answer(rt, &given, errors.bytes(), (&answer, held.as_bytes()), row);
+    let given = (report(&fault, &mut errors), errors.bytes());
+    expect_same(rt, &given, &(answer, held.as_bytes()), row);
     Ok(())
 }
 

@@ -20,156 +20,240 @@ fn pieces_of(alloc: Global, text: &str, size: u32, call: u32) -> Result<MemSourc
 // call.
 type Input = (&'static str, &'static str, usize, u32, u32);
 
-// An input, the capacity of a reader, and the answers of its calls with the lines, up to the first that is not a line.
-type Lines = (Input, usize, &'static str);
+// The answer of a call, and the line.
+type Line = (Result<NextLine, ReadFailed>, &'static str);
+
+// An input, the capacity of a reader, and its calls.
+type Lines = (Input, usize, &'static [Line]);
 
 const LINES: &[Lines] = &[
     (
         ("", "a\nbc\n\nd", 99, 1, 99),
         4,
-        "Closed a, Closed bc, Closed , Last d, End ",
+        &[
+            (Ok(NextLine::Closed), "a"),
+            (Ok(NextLine::Closed), "bc"),
+            (Ok(NextLine::Closed), ""),
+            (Ok(NextLine::Last), "d"),
+            (Ok(NextLine::End), ""),
+        ],
     ),
     (
         ("", "a\nbc\n\nd", 99, 7, 99),
         4,
-        "Closed a, Closed bc, Closed , Last d, End ",
+        &[
+            (Ok(NextLine::Closed), "a"),
+            (Ok(NextLine::Closed), "bc"),
+            (Ok(NextLine::Closed), ""),
+            (Ok(NextLine::Last), "d"),
+            (Ok(NextLine::End), ""),
+        ],
     ),
     (
         ("", "a\nbc\n\n", 99, 7, 99),
         4,
-        "Closed a, Closed bc, Closed , End ",
+        &[
+            (Ok(NextLine::Closed), "a"),
+            (Ok(NextLine::Closed), "bc"),
+            (Ok(NextLine::Closed), ""),
+            (Ok(NextLine::End), ""),
+        ],
     ),
-    (("x\ny", "z\n", 99, 1, 99), 4, "Closed x, Closed yz, End "),
+    (
+        ("x\ny", "z\n", 99, 1, 99),
+        4,
+        &[
+            (Ok(NextLine::Closed), "x"),
+            (Ok(NextLine::Closed), "yz"),
+            (Ok(NextLine::End), ""),
+        ],
+    ),
     // A line of one byte less than the capacity, with its line feed, and as many bytes as the capacity without one.
     (
         ("", "abc\nabc\n", 99, 1, 99),
         4,
-        "Closed abc, Closed abc, End ",
+        &[
+            (Ok(NextLine::Closed), "abc"),
+            (Ok(NextLine::Closed), "abc"),
+            (Ok(NextLine::End), ""),
+        ],
     ),
     (
         ("", "abc\nabc\n", 99, 7, 99),
         4,
-        "Closed abc, Closed abc, End ",
+        &[
+            (Ok(NextLine::Closed), "abc"),
+            (Ok(NextLine::Closed), "abc"),
+            (Ok(NextLine::End), ""),
+        ],
     ),
-    (("", "abc\nabcd", 99, 1, 99), 4, "Closed abc, Full "),
-    (("", "abc\nabcd", 99, 7, 99), 4, "Closed abc, Full "),
+    (
+        ("", "abc\nabcd", 99, 1, 99),
+        4,
+        &[(Ok(NextLine::Closed), "abc"), (Ok(NextLine::Full), "")],
+    ),
+    (
+        ("", "abc\nabcd", 99, 7, 99),
+        4,
+        &[(Ok(NextLine::Closed), "abc"), (Ok(NextLine::Full), "")],
+    ),
     // As many bytes as are allowed, and one more.
-    (("", "a\nbc", 4, 1, 99), 9, "Closed a, Last bc, End "),
-    (("", "a\nbc", 4, 7, 99), 9, "Closed a, Last bc, End "),
-    (("", "a\nbc", 3, 1, 99), 9, "Closed a, Long "),
-    (("", "a\nbc", 3, 7, 99), 9, "Closed a, Long "),
-    (("q", "a\n", 2, 7, 99), 9, "Closed qa, End "),
-    (("", "", 0, 1, 99), 9, "End "),
-    (("", "a", 0, 1, 99), 9, "Long "),
+    (
+        ("", "a\nbc", 4, 1, 99),
+        9,
+        &[
+            (Ok(NextLine::Closed), "a"),
+            (Ok(NextLine::Last), "bc"),
+            (Ok(NextLine::End), ""),
+        ],
+    ),
+    (
+        ("", "a\nbc", 4, 7, 99),
+        9,
+        &[
+            (Ok(NextLine::Closed), "a"),
+            (Ok(NextLine::Last), "bc"),
+            (Ok(NextLine::End), ""),
+        ],
+    ),
+    (
+        ("", "a\nbc", 3, 1, 99),
+        9,
+        &[(Ok(NextLine::Closed), "a"), (Ok(NextLine::Long), "")],
+    ),
+    (
+        ("", "a\nbc", 3, 7, 99),
+        9,
+        &[(Ok(NextLine::Closed), "a"), (Ok(NextLine::Long), "")],
+    ),
+    (
+        ("q", "a\n", 2, 7, 99),
+        9,
+        &[(Ok(NextLine::Closed), "qa"), (Ok(NextLine::End), "")],
+    ),
+    (("", "", 0, 1, 99), 9, &[(Ok(NextLine::End), "")]),
+    (("", "a", 0, 1, 99), 9, &[(Ok(NextLine::Long), "")]),
     // A line that is already here is answered before the call that fails.
-    (("", "a\nb\nc", 99, 7, 0), 9, "Failed "),
-    (("", "a\nb\nc", 99, 7, 1), 9, "Closed a, Closed b, Failed "),
-    (("", "a\nb\nc", 99, 1, 3), 9, "Closed a, Failed "),
-    (("", "a\nb\nc", 99, 1, 4), 9, "Closed a, Closed b, Failed "),
+    (("", "a\nb\nc", 99, 7, 0), 9, &[(Err(ReadFailed), "")]),
+    (
+        ("", "a\nb\nc", 99, 7, 1),
+        9,
+        &[
+            (Ok(NextLine::Closed), "a"),
+            (Ok(NextLine::Closed), "b"),
+            (Err(ReadFailed), ""),
+        ],
+    ),
+    (
+        ("", "a\nb\nc", 99, 1, 3),
+        9,
+        &[(Ok(NextLine::Closed), "a"), (Err(ReadFailed), "")],
+    ),
+    (
+        ("", "a\nb\nc", 99, 1, 4),
+        9,
+        &[
+            (Ok(NextLine::Closed), "a"),
+            (Ok(NextLine::Closed), "b"),
+            (Err(ReadFailed), ""),
+        ],
+    ),
 ];
 
 fn lines() -> &'static [Lines] {
     LINES
 }
 
-// The name of an answer, and whether it is a line.
-fn line_name(answer: Result<NextLine, ReadFailed>) -> (&'static str, bool) {
-    match answer {
-        Ok(NextLine::Closed) => ("Closed", true),
-        Ok(NextLine::Last) => ("Last", true),
-        Ok(NextLine::End) => ("End", false),
-        Ok(NextLine::Full) => ("Full", false),
-        Ok(NextLine::Long) => ("Long", false),
-        Err(ReadFailed) => ("Failed", false),
+fn expect_lines(rt: &impl Abort, reader: &mut LineReader, source: &mut MemSource, row: &Lines) {
+    let &(_, _, wanted) = row;
+    for &(answer, line) in wanted {
+        let given = reader.next(source);
+        expect_same(rt, &(given, reader.line()), &(answer, line.as_bytes()), row);
     }
 }
 
-fn put_answer(answers: &mut Vec<u8>, name: &str, line: &[u8], is_line: bool) -> Result<(), Fail> {
-    answers.extend_from_slice(name.as_bytes())?;
-    answers.push(b' ')?;
-    answers.extend_from_slice(line)?;
-    if is_line {
-        answers.extend_from_slice(b", ")?;
-    }
-    Ok(())
-}
-
-fn answers_of_lines(
-    alloc: Global,
-    reader: &mut LineReader,
-    source: &mut MemSource,
-) -> Result<Vec<u8>, Fail> {
-    let mut answers = Vec::new(alloc);
-    for _ in 0..9 {
-        let (name, is_line) = line_name(reader.next(source));
-        put_answer(&mut answers, name, reader.line(), is_line)?;
-        if !is_line {
-            break;
-        }
-    }
-    Ok(answers)
-}
-
-fn expect_lines(rt: &(impl Abort + AllocGlobal), row: &Lines) -> Result<(), Fail> {
-    let &((first, text, allowed, size, call), room, want) = row;
+fn expect_reader(rt: &(impl Abort + AllocGlobal), row: &Lines) -> Result<(), Fail> {
+    let &((first, text, allowed, size, call), room, _) = row;
     assert!(rt; 0 < size && first.len() <= room);
     let mut source = pieces_of(rt.alloc(), text, size, call)?;
     let mut reader = LineReader::new(rt.alloc(), room, first.as_bytes(), allowed)?;
-    let answers = answers_of_lines(rt.alloc(), &mut reader, &mut source)?;
-    expect_same(rt, &answers.as_slice(), &want.as_bytes(), row);
+    expect_lines(rt, &mut reader, &mut source, row);
     Ok(())
 }
 
 #[test]
 fn reads_lines_of_a_bounded_length(rt: HostRuntime) -> Result<(), Fail> {
     for row in lines() {
-        expect_lines(&rt, row)?;
+        expect_reader(&rt, row)?;
     }
     Ok(())
 }
 
-// An input, and the answers of the calls up to the first that is not a line; the passed and the pending bytes then, and the number of
-// bytes that may still come.
-type Texts = (Input, &'static str, &'static str, &'static str, usize);
+// The answer of a call, and the line.
+type TextLine = (Result<NextText, InputFault>, &'static str);
+
+// The passed and the pending bytes, and the number of bytes that may still come.
+type Kept = (&'static str, &'static str, usize);
+
+// An input, and the calls of a reader with what it keeps then.
+type Texts = (Input, &'static [TextLine], Kept);
 
 const TEXTS: &[Texts] = &[
     (
         ("", "a\nbcdefgh\n\ni", 99, 1, 99),
-        "Closed a, Closed bcdefgh, Closed , Last i, End ",
-        "a\nbcdefgh\n\ni",
-        "",
-        87,
+        &[
+            (Ok(NextText::Closed), "a"),
+            (Ok(NextText::Closed), "bcdefgh"),
+            (Ok(NextText::Closed), ""),
+            (Ok(NextText::Last), "i"),
+            (Ok(NextText::End), ""),
+        ],
+        ("a\nbcdefgh\n\ni", "", 87),
     ),
     (
         ("", "a\nbcdefgh\n\ni", 99, 7, 99),
-        "Closed a, Closed bcdefgh, Closed , Last i, End ",
-        "a\nbcdefgh\n\ni",
-        "",
-        87,
+        &[
+            (Ok(NextText::Closed), "a"),
+            (Ok(NextText::Closed), "bcdefgh"),
+            (Ok(NextText::Closed), ""),
+            (Ok(NextText::Last), "i"),
+            (Ok(NextText::End), ""),
+        ],
+        ("a\nbcdefgh\n\ni", "", 87),
     ),
     (
         ("", "a\nbc", 4, 7, 99),
-        "Closed a, Last bc, End ",
-        "a\nbc",
-        "",
-        0,
+        &[
+            (Ok(NextText::Closed), "a"),
+            (Ok(NextText::Last), "bc"),
+            (Ok(NextText::End), ""),
+        ],
+        ("a\nbc", "", 0),
     ),
-    (("", "a\nbc", 3, 1, 99), "Closed a, Long ", "a\n", "b", 0),
-    (("", "a\nbc", 3, 7, 99), "Closed a, Long ", "a\n", "b", 0),
-    (("", "", 0, 1, 99), "End ", "", "", 0),
+    (
+        ("", "a\nbc", 3, 1, 99),
+        &[(Ok(NextText::Closed), "a"), (Err(InputFault::Long), "")],
+        ("a\n", "b", 0),
+    ),
+    (
+        ("", "a\nbc", 3, 7, 99),
+        &[(Ok(NextText::Closed), "a"), (Err(InputFault::Long), "")],
+        ("a\n", "b", 0),
+    ),
+    (("", "", 0, 1, 99), &[(Ok(NextText::End), "")], ("", "", 0)),
     (
         ("", "a\nb\nc", 99, 7, 1),
-        "Closed a, Closed b, Failed ",
-        "a\nb\n",
-        "c",
-        94,
+        &[
+            (Ok(NextText::Closed), "a"),
+            (Ok(NextText::Closed), "b"),
+            (Err(InputFault::Read), ""),
+        ],
+        ("a\nb\n", "c", 94),
     ),
     (
         ("", "a\nb\nc", 99, 1, 3),
-        "Closed a, Failed ",
-        "a\n",
-        "b",
-        96,
+        &[(Ok(NextText::Closed), "a"), (Err(InputFault::Read), "")],
+        ("a\n", "b", 96),
     ),
 ];
 
@@ -177,51 +261,35 @@ fn texts() -> &'static [Texts] {
     TEXTS
 }
 
-fn text_name(answer: Result<NextText, InputFault>) -> (&'static str, bool) {
-    match answer {
-        Ok(NextText::Closed) => ("Closed", true),
-        Ok(NextText::Last) => ("Last", true),
-        Ok(NextText::End) => ("End", false),
-        Err(InputFault::Read) => ("Failed", false),
-        Err(InputFault::Long) => ("Long", false),
-        Err(InputFault::Memory) => ("Memory", false),
+fn expect_text(rt: &impl Abort, reader: &mut TextReader, source: &mut MemSource, row: &Texts) {
+    let &(_, wanted, (passed, pending, left)) = row;
+    for &(answer, line) in wanted {
+        let given = reader.next(source);
+        expect_same(rt, &(given, reader.line()), &(answer, line.as_bytes()), row);
     }
+    let passed = passed.as_bytes();
+    let given = (
+        reader.before(),
+        reader.passed(),
+        reader.pending(),
+        reader.allowed(),
+    );
+    expect_same(rt, &given, &(passed, passed, pending.as_bytes(), left), row);
 }
 
-fn answers_of_text(
-    alloc: Global,
-    reader: &mut TextReader,
-    source: &mut MemSource,
-) -> Result<Vec<u8>, Fail> {
-    let mut answers = Vec::new(alloc);
-    for _ in 0..9 {
-        let (name, is_line) = text_name(reader.next(source));
-        put_answer(&mut answers, name, reader.line(), is_line)?;
-        if !is_line {
-            break;
-        }
-    }
-    Ok(answers)
-}
-
-fn expect_text(rt: &(impl Abort + AllocGlobal), row: &Texts) -> Result<(), Fail> {
-    let &((_, text, allowed, size, call), want, passed, pending, left) = row;
+fn expect_text_reader(rt: &(impl Abort + AllocGlobal), row: &Texts) -> Result<(), Fail> {
+    let &((_, text, allowed, size, call), ..) = row;
     assert!(rt; 0 < size);
     let mut source = pieces_of(rt.alloc(), text, size, call)?;
     let mut reader = TextReader::new(rt.alloc(), allowed);
-    let answers = answers_of_text(rt.alloc(), &mut reader, &mut source)?;
-    expect_same(rt, &answers.as_slice(), &want.as_bytes(), row);
-    expect_same(rt, &reader.before(), &passed.as_bytes(), row);
-    expect_same(rt, &reader.passed(), &passed.as_bytes(), row);
-    expect_same(rt, &reader.pending(), &pending.as_bytes(), row);
-    expect_same(rt, &reader.allowed(), &left, row);
+    expect_text(rt, &mut reader, &mut source, row);
     Ok(())
 }
 
 #[test]
 fn reads_a_text_and_keeps_it(rt: HostRuntime) -> Result<(), Fail> {
     for row in texts() {
-        expect_text(&rt, row)?;
+        expect_text_reader(&rt, row)?;
     }
     Ok(())
 }

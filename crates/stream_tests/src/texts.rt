@@ -9,7 +9,6 @@ use crate::failing::failing_sink;
 use far_io::{Sink, SureSink, WriteFailed};
 use obj_out::Out;
 use ratio128::Frac;
-use std::alloc::{AllocError, Global};
 use std::process::Abort;
 use std::test::Fail;
 
@@ -86,41 +85,6 @@ fn decimals() -> &'static [Decimal] {
     DECIMALS
 }
 
-// A numerator, a denominator, and the text in lowest terms.
-type Fraction = (i128, u128, &'static str);
-
-const FRACTIONS: &[Fraction] = &[
-    (0, 7, "0"),
-    (-10, 18, "-5/9"),
-    (-4, 2, "-2"),
-    (
-        1,
-        340282366920938463463374607431768211455,
-        "1/340282366920938463463374607431768211455",
-    ),
-    (
-        -170141183460469231731687303715884105727,
-        340282366920938463463374607431768211454,
-        "-1/2",
-    ),
-];
-
-fn fractions() -> &'static [Fraction] {
-    FRACTIONS
-}
-
-// All was put, and the sink holds this text.
-fn expect_held(
-    rt: &impl Abort,
-    put: Result<(), WriteFailed>,
-    sink: &SureSink,
-    text: &[u8],
-) -> Result<(), Fail> {
-    put?;
-    expect_same(rt, &sink.bytes(), &text, &"what is held");
-    Ok(())
-}
-
 fn put_decimal(sink: &mut SureSink, f: &Frac, digits: u32) -> Result<(), WriteFailed>
     requires positive { 0 < f.now.den }
     requires short { f.now.den < 2 ^ 126 }
@@ -139,7 +103,8 @@ fn expect_decimal(rt: &(impl Abort + AllocGlobal), row: &Decimal) -> Result<(), 
     assert!(rt; digits <= 18);
     let mut sink = SureSink::with_room(rt.alloc(), 100)?;
     let put = put_decimal(&mut sink, &Frac { num, den }, digits);
-    expect_held(rt, put, &sink, text.as_bytes())
+    expect_same(rt, &(put, sink.bytes()), &(Ok(()), text.as_bytes()), row);
+    Ok(())
 }
 
 #[test]
@@ -150,13 +115,27 @@ fn rounds_half_to_even(rt: HostRuntime) -> Result<(), Fail> {
     Ok(())
 }
 
-fn put_fraction(sink: &mut SureSink, f: &Frac) -> Result<(), WriteFailed>
-    requires positive { 0 < f.now.den }
-    requires kept { unsigned_abs f.now.num < 2 ^ 127 }
-{
-    let mut out = Out::new(sink);
-    out.put_frac(f)?;
-    out.end()
+// A numerator, a denominator, and the word with the fraction in lowest terms.
+type Fraction = (i128, u128, &'static str);
+
+const FRACTIONS: &[Fraction] = &[
+    (0, 7, "v 0"),
+    (-10, 18, "v -5/9"),
+    (-4, 2, "v -2"),
+    (
+        1,
+        340282366920938463463374607431768211455,
+        "v 1/340282366920938463463374607431768211455",
+    ),
+    (
+        -170141183460469231731687303715884105727,
+        340282366920938463463374607431768211454,
+        "v -1/2",
+    ),
+];
+
+fn fractions() -> &'static [Fraction] {
+    FRACTIONS
 }
 
 fn expect_fraction(rt: &(impl Abort + AllocGlobal), row: &Fraction) -> Result<(), Fail> {
@@ -164,84 +143,43 @@ fn expect_fraction(rt: &(impl Abort + AllocGlobal), row: &Fraction) -> Result<()
     assert!(rt; num.unsigned_abs() < 1 << 127);
     assert!(rt; 0 < den);
     let mut sink = SureSink::with_room(rt.alloc(), 100)?;
-    let put = put_fraction(&mut sink, &Frac { num, den });
-    expect_held(rt, put, &sink, text.as_bytes())
+    let put = put_word_and_fraction(&mut sink, &Frac { num, den });
+    expect_same(rt, &(put, sink.bytes()), &(Ok(()), text.as_bytes()), row);
+    Ok(())
 }
 
 #[test]
-fn puts_fractions_in_lowest_terms(rt: HostRuntime) -> Result<(), Fail> {
+fn puts_a_word_and_a_fraction(rt: HostRuntime) -> Result<(), Fail> {
     for row in fractions() {
         expect_fraction(&rt, row)?;
     }
     Ok(())
 }
 
-// Letters, and two numbers after them.
-fn put_numbers(sink: &mut SureSink, letters: &[u8]) -> Result<(), WriteFailed> {
-    let mut out = Out::new(sink);
-    out.put_bytes(letters)?;
-    out.put_number(u64::MAX)?;
-    out.put_bytes(b" ")?;
-    out.put_wide(u128::MAX)?;
-    out.end()
-}
-
-fn numbers_text(alloc: Global, letters: &[u8]) -> Result<Vec<u8>, AllocError> {
-    let mut text = letters.to_vec(alloc)?;
-    text.extend_from_slice(b"18446744073709551615 340282366920938463463374607431768211455")?;
-    Ok(text)
-}
-
-fn expect_numbers(rt: &(impl Abort + AllocGlobal), letters: &[u8]) -> Result<(), Fail> {
-    let text = numbers_text(rt.alloc(), letters)?;
-    expect_numbers_put(rt, letters, &text)
-}
-
-fn expect_numbers_put(
-    rt: &(impl Abort + AllocGlobal),
-    letters: &[u8],
-    text: &[u8],
-) -> Result<(), Fail> {
-    let mut sink = SureSink::with_room(rt.alloc(), 6000)?;
-    let put = put_numbers(&mut sink, letters);
-    expect_held(rt, put, &sink, text)
-}
-
-#[test]
-fn puts_texts_around_the_end_of_the_buffer(rt: HostRuntime) -> Result<(), Fail> {
-    let letters = [b'a'; 5000];
-    for n in [0, 3967, 3968, 3969, 4095, 4096, 4097, 5000] {
-        expect_numbers(&rt, &letters[..n])?;
-    }
-    Ok(())
-}
-
-// Puts a text in four calls and ends it, whatever fails, and returns the number of calls that succeeded.
-fn count_successes<K: Sink>(sink: &mut K) -> usize {
+// Puts a text in four calls and ends it, whatever fails, and returns which calls succeeded.
+fn successes<K: Sink>(sink: &mut K) -> [bool; 5] {
     let letters = [b'a'; 5000];
     let mut out = Out::new(sink);
-    let answers = [
-        out.put_bytes(&letters[..3000]),
-        out.put_bytes(&letters[..3000]),
-        out.put_bytes(&letters),
-        out.put_number(7),
-        out.end(),
-    ];
-    answers.iter().filter(|answer| answer.is_ok()).count()
+    [
+        out.put_bytes(&letters[..3000]).is_ok(),
+        out.put_bytes(&letters[..3000]).is_ok(),
+        out.put_bytes(&letters).is_ok(),
+        out.put_number(u64::MAX).is_ok(),
+        out.end().is_ok(),
+    ]
 }
 
-// The capacity of the sink, its failing call (9 for none), the number of calls of the `Out` that succeed, and the number of bytes in the
-// sink then.
-type Stop = (usize, u32, usize, usize);
+// The capacity of the sink, its failing call (9 for none), which calls of the `Out` succeed, and the number of bytes in the sink then.
+type Stop = (usize, u32, [bool; 5], usize);
 
 const STOPS: &[Stop] = &[
-    (12000, 0, 1, 0),
-    (12000, 1, 2, 3000),
-    (12000, 2, 2, 6000),
-    (12000, 3, 4, 11000),
-    (12000, 4, 4, 11001),
-    (12000, 5, 5, 11001),
-    (7000, 9, 2, 7000),
+    (12000, 0, [true, false, false, false, false], 0),
+    (12000, 1, [true, true, false, false, false], 3000),
+    (12000, 2, [true, true, false, false, false], 6000),
+    (12000, 3, [true, true, true, true, false], 11000),
+    (12000, 4, [true, true, true, true, false], 11020),
+    (12000, 5, [true, true, true, true, true], 11020),
+    (7000, 9, [true, true, false, false, false], 7000),
 ];
 
 fn stops() -> &'static [Stop] {
@@ -249,10 +187,10 @@ fn stops() -> &'static [Stop] {
 }
 
 fn expect_stop(rt: &(impl Abort + AllocGlobal), row: &Stop) -> Result<(), Fail> {
-    let &(room, call, count, held) = row;
+    let &(room, call, calls, held) = row;
     let mut sink = failing_sink(rt.alloc(), room, call)?;
-    expect_same(rt, &count_successes(&mut sink), &count, row);
-    expect_same(rt, &sink.bytes().len(), &held, row);
+    let given = (successes(&mut sink), sink.bytes().len());
+    expect_same(rt, &given, &(calls, held), row);
     Ok(())
 }
 
@@ -262,15 +200,4 @@ fn stops_at_a_failed_write(rt: HostRuntime) -> Result<(), Fail> {
         expect_stop(&rt, row)?;
     }
     Ok(())
-}
-
-fn expect_word_and_fraction(rt: &(impl Abort + AllocGlobal)) -> Result<(), Fail> {
-    let mut sink = SureSink::with_room(rt.alloc(), 10)?;
-    let put = put_word_and_fraction(&mut sink, &Frac { num: -6, den: 4 });
-    expect_held(rt, put, &sink, b"v -3/2")
-}
-
-#[test]
-fn puts_a_word_and_a_fraction(rt: HostRuntime) -> Result<(), Fail> {
-    expect_word_and_fraction(&rt)
 }
