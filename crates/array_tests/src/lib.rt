@@ -4,7 +4,7 @@
 #[cfg(test)]
 mod answers;
 #[cfg(test)]
-mod levels;
+mod cages;
 #[cfg(test)]
 mod mesh_faults;
 #[cfg(test)]

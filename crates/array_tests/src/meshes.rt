@@ -1,178 +1,222 @@
 //! Meshes in arrays.
 
+use crate::cages::{MINUS_ONE, ONE};
 use flat_arrays::Wide;
 use mesh_arrays::{
-    ArraysFault, MeshArrays, MeshPlaces, SharpEdge, SharpPoint, WidePoint, WideValue,
-    are_long_enough, counts_of, mesh_of_arrays, options_of, put_mesh,
+    ArraysFault, MeshArrays, MeshCounts, MeshOptions, MeshPlaces, SharpEdge, SharpPoint, WidePoint,
+    WideValue, are_long_enough, counts_of, mesh_of_arrays, options_of, put_mesh,
 };
 use raw_mesh::BadPart;
+use std::alloc::Global;
 
-const MINUS_ONE: Wide = Wide {
-    low: u64::MAX,
-    high: u64::MAX,
-};
+const ZERO: Wide = Wide { low: 0, high: 0 };
 
-const PYRAMID_POINTS: &[WidePoint] = &[
+const TWO: Wide = Wide { low: 2, high: 0 };
+
+const THREE: Wide = Wide { low: 3, high: 0 };
+
+const POINTS: &[WidePoint] = &[
     WidePoint {
         x: MINUS_ONE,
+        y: ZERO,
+        z: ONE,
+    },
+    WidePoint {
+        x: THREE,
         y: MINUS_ONE,
-        z: Wide { low: 0, high: 0 },
+        z: ZERO,
     },
     WidePoint {
-        x: Wide { low: 1, high: 0 },
-        y: MINUS_ONE,
-        z: Wide { low: 0, high: 0 },
-    },
-    WidePoint {
-        x: Wide { low: 1, high: 0 },
-        y: Wide { low: 1, high: 0 },
-        z: Wide { low: 0, high: 0 },
-    },
-    WidePoint {
-        x: MINUS_ONE,
-        y: Wide { low: 1, high: 0 },
-        z: Wide { low: 0, high: 0 },
-    },
-    WidePoint {
-        x: Wide { low: 0, high: 0 },
-        y: Wide { low: 0, high: 0 },
-        z: Wide { low: 3, high: 0 },
+        x: ONE,
+        y: TWO,
+        z: THREE,
     },
 ];
 
-const PYRAMID_CORNERS: &[u32] = &[3, 2, 1, 0, 0, 1, 4, 1, 2, 4, 2, 3, 4, 3, 0, 4];
+const TEXTURE: &[WideValue] = &[WideValue {
+    u: MINUS_ONE,
+    v: TWO,
+}];
 
-const PYRAMID_CREASES: &[SharpEdge] = &[SharpEdge {
+const FACE_SIZES: &[u32] = &[3];
+
+const CORNERS: &[u32] = &[2, 0, 1];
+
+const TEXTURE_CORNERS: &[u32] = &[0, 0, 0];
+
+const CREASES: &[SharpEdge] = &[SharpEdge {
     a: 0,
-    b: 4,
+    b: 2,
     sharpness_num: 5,
     sharpness_den: 2,
 }];
 
-fn pyramid() -> MeshArrays<'static> {
+const CORNER_TAGS: &[SharpPoint] = &[SharpPoint {
+    point: 1,
+    sharpness_num: 1,
+    sharpness_den: 4,
+}];
+
+const HOLES: &[u32] = &[0];
+
+fn tagged_triangle() -> MeshArrays<'static> {
     MeshArrays {
-        points: PYRAMID_POINTS,
-        scale: Wide { low: 2, high: 0 },
-        texture: &[],
-        texture_scale: Wide { low: 1, high: 0 },
-        face_sizes: &[4, 3, 3, 3, 3],
-        corners: PYRAMID_CORNERS,
-        texture_corners: &[],
-        creases: PYRAMID_CREASES,
-        corner_tags: &[],
-        holes: &[0],
+        points: POINTS,
+        scale: TWO,
+        texture: TEXTURE,
+        texture_scale: ONE,
+        face_sizes: FACE_SIZES,
+        corners: CORNERS,
+        texture_corners: TEXTURE_CORNERS,
+        creases: CREASES,
+        corner_tags: CORNER_TAGS,
+        holes: HOLES,
         boundary: 2,
         method: 1,
     }
 }
 
-// The arrays of the pyramid, each one item longer.
+// Writes the triangle into other arrays if they are long enough. Returns its counts and options, and whether they are.
+fn put_triangle(
+    alloc: Global,
+    places: &mut MeshPlaces,
+) -> Result<(MeshCounts, MeshOptions, bool), ArraysFault> {
+    let mesh = mesh_of_arrays(alloc, &tagged_triangle())?;
+    let counts = counts_of(&mesh);
+    let fits = are_long_enough(&counts, places);
+    if fits {
+        put_mesh(&mesh, places);
+    }
+    Ok((counts, options_of(&mesh), fits))
+}
+
+// What fills the arrays before the call.
 const NO_POINT: WidePoint = WidePoint {
-    x: Wide { low: 9, high: 9 },
-    y: Wide { low: 9, high: 9 },
-    z: Wide { low: 9, high: 9 },
+    x: THREE,
+    y: THREE,
+    z: THREE,
 };
 
-const NO_EDGE: SharpEdge = SharpEdge {
+const NO_VALUE: WideValue = WideValue { u: THREE, v: THREE };
+
+const NO_CREASE: SharpEdge = SharpEdge {
     a: 9,
     b: 9,
     sharpness_num: 9,
     sharpness_den: 9,
 };
 
+const NO_CORNER_TAG: SharpPoint = SharpPoint {
+    point: 9,
+    sharpness_num: 9,
+    sharpness_den: 9,
+};
+
+const COUNTS: MeshCounts = MeshCounts {
+    points: 3,
+    texture: 1,
+    faces: 1,
+    corners: 3,
+    texture_corners: 3,
+    creases: 1,
+    corner_tags: 1,
+    holes: 1,
+};
+
+const OPTIONS: MeshOptions = MeshOptions {
+    scale: TWO,
+    texture_scale: ONE,
+    boundary: 2,
+    method: 1,
+};
+
+// Each array has one place to spare.
 #[test]
 fn a_mesh_goes_into_other_arrays(rt: HostRuntime) {
-    let arrays = pyramid();
-    let mesh = mesh_of_arrays(rt.alloc(), &arrays).expect(&rt, "the pyramid is a mesh");
-    let counts = counts_of(&mesh);
-    let mut points = [NO_POINT; 6];
-    let mut sizes = [9u32; 6];
-    let mut corners = [9u32; 17];
-    let mut creases = [NO_EDGE; 2];
+    let mut points = [NO_POINT; 4];
+    let mut texture = [NO_VALUE; 2];
+    let mut face_sizes = [9u32; 2];
+    let mut corners = [9u32; 4];
+    let mut texture_corners = [9u32; 4];
+    let mut creases = [NO_CREASE; 2];
+    let mut corner_tags = [NO_CORNER_TAG; 2];
     let mut holes = [9u32; 2];
     let mut places = MeshPlaces {
         points: &mut points,
-        texture: &mut [],
-        face_sizes: &mut sizes,
+        texture: &mut texture,
+        face_sizes: &mut face_sizes,
         corners: &mut corners,
-        texture_corners: &mut [],
+        texture_corners: &mut texture_corners,
         creases: &mut creases,
-        corner_tags: &mut [],
+        corner_tags: &mut corner_tags,
         holes: &mut holes,
     };
-    assert!(rt; are_long_enough(&counts, &places));
-    put_mesh(&mesh, &mut places);
-    assert_eq!(rt; points[0], PYRAMID_POINTS[0]);
-    assert_eq!(rt; points[4], PYRAMID_POINTS[4]);
-    assert_eq!(rt; points[5], NO_POINT);
-    assert_eq!(rt; sizes, [4, 3, 3, 3, 3, 9]);
+    let put = put_triangle(rt.alloc(), &mut places);
+    assert_eq!(rt; put, Ok((COUNTS, OPTIONS, true)));
+    let wanted = tagged_triangle();
+    assert_eq!(rt; points.strip_suffix(&[NO_POINT]), Some(wanted.points));
+    assert_eq!(rt; texture.strip_suffix(&[NO_VALUE]), Some(wanted.texture));
+    assert_eq!(rt; face_sizes.strip_suffix(&[9]), Some(wanted.face_sizes));
+    assert_eq!(rt; corners.strip_suffix(&[9]), Some(wanted.corners));
     assert_eq!(rt;
-        corners,
-        [3, 2, 1, 0, 0, 1, 4, 1, 2, 4, 2, 3, 4, 3, 0, 4, 9]
+        texture_corners.strip_suffix(&[9]),
+        Some(wanted.texture_corners)
     );
-    assert_eq!(rt; creases, [PYRAMID_CREASES[0], NO_EDGE]);
-    assert_eq!(rt; holes, [0, 9]);
-    let options = options_of(&mesh);
-    assert_eq!(rt; options.scale, Wide { low: 2, high: 0 });
-    assert_eq!(rt; options.boundary, 2);
-    assert_eq!(rt; options.method, 1);
+    assert_eq!(rt; creases.strip_suffix(&[NO_CREASE]), Some(wanted.creases));
+    assert_eq!(rt;
+        corner_tags.strip_suffix(&[NO_CORNER_TAG]),
+        Some(wanted.corner_tags)
+    );
+    assert_eq!(rt; holes.strip_suffix(&[9]), Some(wanted.holes));
 }
 
 // The fault of arrays that are not a mesh.
-fn fault_of(rt: &HostRuntime, arrays: &MeshArrays) -> Option<ArraysFault> {
-    match mesh_of_arrays(rt.alloc(), arrays) {
+fn fault_of(alloc: Global, arrays: &MeshArrays) -> Option<ArraysFault> {
+    match mesh_of_arrays(alloc, arrays) {
         Ok(_) => None,
         Err(fault) => Some(fault),
     }
 }
 
-#[test]
-fn the_first_fault_comes_with_its_place(rt: HostRuntime) {
-    let mut arrays = pyramid();
-    arrays.holes = &[0, 5];
-    assert_eq!(rt;
-        fault_of(&rt, &arrays),
-        Some(ArraysFault::Part(BadPart::Hole(1)))
-    );
-    arrays.corner_tags = &[SharpPoint {
-        point: 0,
-        sharpness_num: 1,
-        sharpness_den: 0,
-    }];
-    assert_eq!(rt;
-        fault_of(&rt, &arrays),
-        Some(ArraysFault::CornerSharpness(0))
-    );
-    arrays.creases = &[SharpEdge {
-        a: 0,
-        b: 4,
-        sharpness_num: 1,
-        sharpness_den: (1 << 60) + 1,
-    }];
-    assert_eq!(rt;
-        fault_of(&rt, &arrays),
-        Some(ArraysFault::CreaseSharpness(0))
-    );
-    arrays.method = 2;
-    assert_eq!(rt; fault_of(&rt, &arrays), Some(ArraysFault::Method));
-    arrays.boundary = 3;
-    assert_eq!(rt; fault_of(&rt, &arrays), Some(ArraysFault::Boundary));
-}
+const BAD_HOLES: &[u32] = &[0, 5];
+
+const BAD_CORNER_TAGS: &[SharpPoint] = &[SharpPoint {
+    point: 0,
+    sharpness_num: 1,
+    sharpness_den: 0,
+}];
+
+const BAD_CREASES: &[SharpEdge] = &[SharpEdge {
+    a: 0,
+    b: 2,
+    sharpness_num: 1,
+    sharpness_den: (1 << 60) + 1,
+}];
 
 #[test]
-fn texture_is_there_with_all_its_corners(rt: HostRuntime) {
-    let mut arrays = pyramid();
-    arrays.texture = &[WideValue {
-        u: MINUS_ONE,
-        v: Wide { low: 0, high: 0 },
-    }];
-    arrays.texture_corners = &[0; 16];
-    let mesh = mesh_of_arrays(rt.alloc(), &arrays).expect(&rt, "the pyramid has texture");
-    assert!(rt; mesh.has_texture());
-    assert_eq!(rt; counts_of(&mesh).texture_corners, 16);
-    arrays.texture_corners = &[0; 15];
-    assert_eq!(rt;
-        fault_of(&rt, &arrays),
-        Some(ArraysFault::Part(BadPart::TextureCornerCount))
-    );
+fn the_first_fault_comes_with_its_place(rt: HostRuntime) {
+    let hole = MeshArrays {
+        holes: BAD_HOLES,
+        ..tagged_triangle()
+    };
+    let corner = MeshArrays {
+        corner_tags: BAD_CORNER_TAGS,
+        ..hole
+    };
+    let crease = MeshArrays {
+        creases: BAD_CREASES,
+        ..corner
+    };
+    let method = MeshArrays {
+        method: 2,
+        ..crease
+    };
+    for (arrays, fault) in [
+        (hole, ArraysFault::Part(BadPart::Hole(1))),
+        (corner, ArraysFault::CornerSharpness(0)),
+        (crease, ArraysFault::CreaseSharpness(0)),
+        (method, ArraysFault::Method),
+    ] {
+        assert_eq!(rt; fault_of(rt.alloc(), &arrays), Some(fault));
+    }
 }
