@@ -1,13 +1,12 @@
 //! Faults as records, their lines in bytes, and faults back from their records.
 
 use far_fault::{FarFault, LimitCause, OverflowKind, PlaceFault, TableCause, Track};
-use fault_record::{FaultRecord, fault_of_record, put_line, record_of};
+use fault_record::{FaultRecord, fault_of_record, put_line, put_mesh_faults, record_of};
 use level_topology::Counted;
 use mesh_check::MeshFault;
 use nearest_float::FloatFault;
 use obj_tags::ObjCause;
 use raw_mesh::BadPart;
-use std::process::Abort;
 
 // A fault, its status, its kind, its two numbers, and its line.
 type Fault = (FarFault, (u32, u32, u64, u64), &'static str);
@@ -122,41 +121,27 @@ fn faults() -> &'static [Fault] {
     FAULTS
 }
 
-// The numbers of a record.
-fn numbers(record: &FaultRecord) -> (u32, u32, u64, u64) {
-    (record.status, record.kind, record.first, record.second)
-}
-
-// The record of these numbers.
-fn record(numbers: (u32, u32, u64, u64)) -> FaultRecord {
+fn record(status: u32, kind: u32, first: u64, second: u64) -> FaultRecord {
     FaultRecord {
-        status: numbers.0,
-        kind: numbers.1,
-        first: numbers.2,
-        second: numbers.3,
+        status,
+        kind,
+        first,
+        second,
     }
 }
 
-// The line of the record is at the front of the bytes, and the byte behind it stays.
-fn expect_line(rt: &impl Abort, kept: &FaultRecord, text: &str) {
-    let mut out = [7u8; 128];
-    let len = put_line(kept, &mut out) as usize;
-    assert_eq!(rt; out.get(..len), Some(text.as_bytes()));
-    assert_eq!(rt; out.get(len), Some(&7));
-}
-
-fn expect_record(rt: &impl Abort, row: &Fault) {
-    let (fault, want, text) = row;
-    let kept = record_of(fault);
-    assert_eq!(rt; numbers(&kept), *want);
-    assert_eq!(rt; fault_of_record(&kept), Some(*fault));
-    expect_line(rt, &kept, text);
-}
-
+// The line of a record is at the front of the bytes, and the byte behind it stays.
 #[test]
 fn faults_come_back_from_their_records(rt: HostRuntime) {
     for row in faults() {
-        expect_record(&rt, row);
+        let &(fault, (status, kind, first, second), text) = row;
+        let kept = record(status, kind, first, second);
+        assert_eq!(rt; record_of(&fault), kept);
+        assert_eq!(rt; fault_of_record(&kept), Some(fault));
+        let mut out = [7u8; 128];
+        let len = put_line(&kept, &mut out) as usize;
+        assert_eq!(rt; out.get(..len), Some(text.as_bytes()));
+        assert_eq!(rt; out.get(len), Some(&7));
     }
 }
 
@@ -193,27 +178,35 @@ fn strange() -> &'static [(u32, u32, u64, u64)] {
     STRANGE
 }
 
-fn expect_none(rt: &impl Abort, row: &(u32, u32, u64, u64)) {
-    let kept = record(*row);
-    assert_eq!(rt; fault_of_record(&kept), None);
-    let mut out = [7u8; 4];
-    assert_eq!(rt; put_line(&kept, &mut out), 0);
-    assert_eq!(rt; out, [7; 4]);
-}
-
 #[test]
 fn other_records_are_of_no_fault(rt: HostRuntime) {
     for row in strange() {
-        expect_none(&rt, row);
+        let &(status, kind, first, second) = row;
+        let kept = record(status, kind, first, second);
+        assert_eq!(rt; fault_of_record(&kept), None);
+        let mut out = [7u8; 4];
+        assert_eq!(rt; put_line(&kept, &mut out), 0);
+        assert_eq!(rt; out, [7; 4]);
     }
 }
 
 #[test]
 fn arrays_and_floats_have_records(rt: HostRuntime) {
     let crease = FaultRecord::of_bad_part(&BadPart::Crease(6));
-    assert_eq!(rt; numbers(&crease), (17, 10, 6, 0));
+    assert_eq!(rt; crease, record(17, 10, 6, 0));
     let sizes = FaultRecord::of_bad_part(&BadPart::FaceSizes);
-    assert_eq!(rt; numbers(&sizes), (17, 6, 0, 0));
+    assert_eq!(rt; sizes, record(17, 6, 0, 0));
     let wide = FaultRecord::of_bad_number(5, FloatFault::TooWide);
-    assert_eq!(rt; numbers(&wide), (18, 1, 5, 0));
+    assert_eq!(rt; wide, record(18, 1, 5, 0));
+}
+
+#[test]
+fn records_of_mesh_faults_fill_the_front(rt: HostRuntime) {
+    let faults = [MeshFault::FaceTooSmall(6), MeshFault::NonManifoldEdge(4, 1)];
+    let old = record(9, 9, 9, 9);
+    let mut out = [old; 3];
+    assert!(rt; !put_mesh_faults(&faults, &mut out[..1]));
+    assert_eq!(rt; out, [old; 3]);
+    assert!(rt; put_mesh_faults(&faults, &mut out));
+    assert_eq!(rt; out, [record(6, 0, 6, 0), record(6, 2, 4, 1), old]);
 }
