@@ -10,6 +10,4 @@ mod rows;
 #[cfg(test)]
 mod scales;
 #[cfg(test)]
-mod stencils;
-#[cfg(test)]
 mod words;

@@ -1,17 +1,28 @@
 //! Exact evaluation of rows and rounding of fractions, in arrays.
 
+use crate::words::{MINUS_ONE, MINUS_THREE, OLD, ONE, ZERO};
 use flat_arrays::Wide;
 use row_arrays::{
     ControlArrays, FractionArrays, FractionFault, RowArrays, RowFault, RowRange, apply_rows,
     round_fractions32, round_fractions64,
 };
 
-// The contents of an array before the call.
-const OLD: Wide = Wide { low: 7, high: 7 };
+const TWO: Wide = Wide { low: 2, high: 0 };
 
-const ZERO: Wide = Wide { low: 0, high: 0 };
+const THREE: Wide = Wide { low: 3, high: 0 };
 
-const ONE: Wide = Wide { low: 1, high: 0 };
+const MINUS_EIGHT: Wide = Wide {
+    low: u64::MAX - 7,
+    high: u64::MAX,
+};
+
+const FOUR: Wide = Wide { low: 4, high: 0 };
+
+const FIVE: Wide = Wide { low: 5, high: 0 };
+
+const SEVEN: Wide = Wide { low: 7, high: 0 };
+
+const SIXTEEN: Wide = Wide { low: 16, high: 0 };
 
 // 2^127 without a sign, and -2^127 in two's complement.
 const SIGN: Wide = Wide {
@@ -19,48 +30,63 @@ const SIGN: Wide = Wide {
     high: 0x8000_0000_0000_0000,
 };
 
-// Evaluates a range of three rows over three controls of two components. The second row has no entries.
-fn apply(from: u32, to: u32, out: &mut [Wide]) -> Result<(), RowFault> {
-    let numerators = [1u128, 3, 2, 1, 1].map(|n| Wide::of_natural(n));
-    let numbers = [4i128, -8, 16, 5, -3, 7].map(|n| Wide::of_integer(n));
+// The sums: 4 + 3 * 16 and -8 + 3 * 5; nothing; -6 + 4 + 16 and 14 - 8 + 5; 2^127 * -1 and 0.
+const SUMS: [Wide; 9] = [
+    Wide { low: 52, high: 0 },
+    SEVEN,
+    ZERO,
+    ZERO,
+    Wide { low: 14, high: 0 },
+    Wide { low: 11, high: 0 },
+    SIGN,
+    ZERO,
+    OLD,
+];
+
+const STARTS: &[u32] = &[0, 2, 2, 5, 6];
+
+const INDICES: &[u32] = &[0, 1, 2, 0, 1, 3];
+
+const NUMERATORS: &[Wide] = &[ONE, THREE, TWO, ONE, ONE, SIGN];
+
+const NUMBERS: &[Wide] = &[
+    FOUR,
+    MINUS_EIGHT,
+    SIXTEEN,
+    FIVE,
+    MINUS_THREE,
+    SEVEN,
+    MINUS_ONE,
+    ZERO,
+];
+
+// Evaluates four rows over four controls of two components. The second row has no entries.
+fn apply(out: &mut [Wide]) -> Result<(), RowFault> {
     let rows = RowArrays {
-        starts: &[0, 2, 2, 5],
-        indices: &[0, 1, 2, 0, 1],
-        numerators: &numerators,
+        starts: STARTS,
+        indices: INDICES,
+        numerators: NUMERATORS,
     };
     let controls = ControlArrays {
-        numbers: &numbers,
+        numbers: NUMBERS,
         components: 2,
     };
-    apply_rows(&rows, &controls, &RowRange { from, to }, out)
-}
-
-// Whether the array begins with these integers.
-fn begins(out: &[Wide], integers: &[i128]) -> bool {
-    out.iter()
-        .zip(integers)
-        .all(|(words, integer)| words.integer() == *integer)
+    apply_rows(&rows, &controls, &RowRange { from: 0, to: 4 }, out)
 }
 
 #[test]
-fn two_ranges_give_what_one_gives(rt: HostRuntime) {
-    let mut whole = [OLD; 7];
-    assert_eq!(rt; apply(0, 3, &mut whole), Ok(()));
-    assert!(rt; begins(&whole, &[52, 7, 0, 0, 14, 11]));
-    let mut parts = [OLD; 7];
-    assert_eq!(rt; apply(1, 3, &mut parts[2..]), Ok(()));
-    assert_eq!(rt; apply(0, 1, &mut parts), Ok(()));
-    assert_eq!(rt; parts, whole);
-    assert_eq!(rt; parts[6], OLD);
+fn rows_are_weighted_sums_of_controls(rt: HostRuntime) {
+    let mut out = [OLD; 9];
+    assert_eq!(rt; apply(&mut out), Ok(()));
+    assert_eq!(rt; out, SUMS);
 }
 
 // One entry in the first of some rows, with one number of its control.
-#[derive(Clone, Copy)]
 struct OneEntry {
     starts: &'static [u32],
-    index: u32,
-    numerator: Wide,
-    number: Wide,
+    indices: &'static [u32],
+    numerators: &'static [Wide],
+    numbers: &'static [Wide],
     components: u32,
     range: RowRange,
     places: usize,
@@ -72,9 +98,9 @@ struct OneEntry {
 const REFUSED: &[OneEntry] = &[
     OneEntry {
         starts: &[0, 1],
-        index: 0,
-        numerator: ONE,
-        number: ONE,
+        indices: &[0],
+        numerators: &[ONE],
+        numbers: &[ONE],
         components: 0,
         range: RowRange { from: 0, to: 1 },
         places: 1,
@@ -82,9 +108,9 @@ const REFUSED: &[OneEntry] = &[
     },
     OneEntry {
         starts: &[0, 1],
-        index: 0,
-        numerator: ONE,
-        number: ONE,
+        indices: &[0],
+        numerators: &[ONE],
+        numbers: &[ONE],
         components: 1,
         range: RowRange { from: 1, to: 0 },
         places: 1,
@@ -92,9 +118,9 @@ const REFUSED: &[OneEntry] = &[
     },
     OneEntry {
         starts: &[0, 1],
-        index: 0,
-        numerator: ONE,
-        number: ONE,
+        indices: &[0],
+        numerators: &[ONE],
+        numbers: &[ONE],
         components: 1,
         range: RowRange { from: 0, to: 2 },
         places: 2,
@@ -102,9 +128,9 @@ const REFUSED: &[OneEntry] = &[
     },
     OneEntry {
         starts: &[0, 1],
-        index: 0,
-        numerator: ONE,
-        number: ONE,
+        indices: &[0],
+        numerators: &[ONE],
+        numbers: &[ONE],
         components: 1,
         range: RowRange { from: 0, to: 1 },
         places: 0,
@@ -112,9 +138,9 @@ const REFUSED: &[OneEntry] = &[
     },
     OneEntry {
         starts: &[0, 1, 0],
-        index: 0,
-        numerator: ONE,
-        number: ONE,
+        indices: &[0],
+        numerators: &[ONE],
+        numbers: &[ONE],
         components: 1,
         range: RowRange { from: 0, to: 2 },
         places: 2,
@@ -122,9 +148,9 @@ const REFUSED: &[OneEntry] = &[
     },
     OneEntry {
         starts: &[0, 2],
-        index: 0,
-        numerator: ONE,
-        number: ONE,
+        indices: &[0],
+        numerators: &[ONE],
+        numbers: &[ONE],
         components: 1,
         range: RowRange { from: 0, to: 1 },
         places: 1,
@@ -132,9 +158,9 @@ const REFUSED: &[OneEntry] = &[
     },
     OneEntry {
         starts: &[0, 1],
-        index: 1,
-        numerator: ONE,
-        number: ONE,
+        indices: &[1],
+        numerators: &[ONE],
+        numbers: &[ONE],
         components: 1,
         range: RowRange { from: 0, to: 1 },
         places: 1,
@@ -142,9 +168,9 @@ const REFUSED: &[OneEntry] = &[
     },
     OneEntry {
         starts: &[0, 0, 1],
-        index: 0,
-        numerator: SIGN,
-        number: ONE,
+        indices: &[0],
+        numerators: &[SIGN],
+        numbers: &[ONE],
         components: 1,
         range: RowRange { from: 0, to: 2 },
         places: 2,
@@ -159,11 +185,11 @@ fn refused() -> &'static [OneEntry] {
 fn apply_entry(entry: &OneEntry, out: &mut [Wide]) -> Result<(), RowFault> {
     let rows = RowArrays {
         starts: entry.starts,
-        indices: &[entry.index],
-        numerators: &[entry.numerator],
+        indices: entry.indices,
+        numerators: entry.numerators,
     };
     let controls = ControlArrays {
-        numbers: &[entry.number],
+        numbers: entry.numbers,
         components: entry.components,
     };
     apply_rows(&rows, &controls, &entry.range, out)
@@ -174,64 +200,45 @@ fn rows_are_refused_for_their_first_fault(rt: HostRuntime) {
     for entry in refused() {
         let mut out = [OLD; 2];
         assert!(rt; entry.places <= 2);
-        assert_eq!(rt;
-            apply_entry(entry, &mut out[..entry.places]),
-            Err(entry.fault)
-        );
+        let applied = apply_entry(entry, &mut out[..entry.places]);
+        assert_eq!(rt; applied, Err(entry.fault));
         assert_eq!(rt; out[1], OLD);
     }
 }
 
-#[test]
-fn the_least_integer_is_a_product(rt: HostRuntime) {
-    let entry = OneEntry {
-        starts: &[0, 1],
-        index: 0,
-        numerator: SIGN,
-        number: Wide::of_integer(-1),
-        components: 1,
-        range: RowRange { from: 0, to: 1 },
-        places: 1,
-        fault: RowFault::Short,
-    };
-    let mut out = [OLD; 1];
-    assert_eq!(rt; apply_entry(&entry, &mut out), Ok(()));
-    assert_eq!(rt; out, [SIGN]);
-}
+const MINUS_FIVE: Wide = Wide {
+    low: u64::MAX - 4,
+    high: u64::MAX,
+};
 
-// Three fractions. Two of them share the first denominator.
-fn fractions(numerators: &[Wide; 3]) -> FractionArrays<'_> {
-    FractionArrays {
-        numerators,
-        denominators: &[Wide { low: 2, high: 0 }, Wide { low: 3, high: 0 }],
-        per: 2,
-        scale: Wide { low: 8, high: 0 },
-    }
-}
+const FRACTIONS: &[Wide] = &[Wide { low: 9, high: 0 }, MINUS_FIVE, ONE];
 
+const DENOMINATORS: &[Wide] = &[TWO, THREE];
+
+const DOUBLES: [u64; 4] = [
+    0x3fe2_0000_0000_0000,
+    0xbfd4_0000_0000_0000,
+    0x3fa5_5555_5555_5555,
+    7,
+];
+
+const FLOATS: [u32; 4] = [0x3f10_0000, 0xbea0_0000, 0x3d2a_aaab, 7];
+
+// Two of three fractions share the first denominator.
 #[test]
 fn fractions_have_the_nearest_doubles_and_floats(rt: HostRuntime) {
-    let numerators = [9i128, -5, 1].map(|n| Wide::of_integer(n));
+    let fractions = FractionArrays {
+        numerators: FRACTIONS,
+        denominators: DENOMINATORS,
+        per: 2,
+        scale: Wide { low: 8, high: 0 },
+    };
     let mut doubles = [7u64; 4];
-    assert_eq!(rt;
-        round_fractions64(&fractions(&numerators), &mut doubles),
-        Ok(())
-    );
-    assert_eq!(rt;
-        doubles,
-        [
-            0x3fe2_0000_0000_0000,
-            0xbfd4_0000_0000_0000,
-            0x3fa5_5555_5555_5555,
-            7
-        ]
-    );
+    assert_eq!(rt; round_fractions64(&fractions, &mut doubles), Ok(()));
+    assert_eq!(rt; doubles, DOUBLES);
     let mut floats = [7u32; 4];
-    assert_eq!(rt;
-        round_fractions32(&fractions(&numerators), &mut floats),
-        Ok(())
-    );
-    assert_eq!(rt; floats, [0x3f10_0000, 0xbea0_0000, 0x3d2a_aaab, 7]);
+    assert_eq!(rt; round_fractions32(&fractions, &mut floats), Ok(()));
+    assert_eq!(rt; floats, FLOATS);
 }
 
 // The number of numerators for each denominator, the numerators, the denominators, the scale, and the fault.
@@ -283,8 +290,5 @@ fn fractions_are_refused_for_their_first_fault(rt: HostRuntime) {
         let mut doubles = [7u64; 2];
         assert_eq!(rt; round_fractions64(&arrays, &mut doubles), Err(fault));
         assert_eq!(rt; doubles, [7, 7]);
-        let mut floats = [7u32; 2];
-        assert_eq!(rt; round_fractions32(&arrays, &mut floats), Err(fault));
-        assert_eq!(rt; floats, [7, 7]);
     }
 }

@@ -2,6 +2,23 @@
 
 use flat_arrays::{Wide, put_item, put_items};
 
+// The contents of a number's place before a call.
+pub(crate) const OLD: Wide = Wide { low: 7, high: 7 };
+
+pub(crate) const ZERO: Wide = Wide { low: 0, high: 0 };
+
+pub(crate) const ONE: Wide = Wide { low: 1, high: 0 };
+
+pub(crate) const MINUS_ONE: Wide = Wide {
+    low: u64::MAX,
+    high: u64::MAX,
+};
+
+pub(crate) const MINUS_THREE: Wide = Wide {
+    low: u64::MAX - 2,
+    high: u64::MAX,
+};
+
 #[test]
 fn numbers_come_back_from_their_words(rt: HostRuntime) {
     assert_eq!(rt; Wide::of_integer(-1).high, u64::MAX);
