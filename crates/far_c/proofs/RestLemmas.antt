@@ -3,7 +3,6 @@ use Rattle.std.proofs.Common.{refl}
 use Rattle.level_arrays.specs.Places as level
 use Rattle.level_arrays.specs.declared.counts.LevelCounts.{LevelCounts}
 use Rattle.level_arrays.specs.declared.places.LevelPlaces.{LevelPlaces}
-use Rattle.mesh_arrays.specs.Written as mesh
 use Rattle.table_arrays.specs.Places as table
 use Rattle.table_arrays.specs.declared.places.TableCounts.{TableCounts}
 use Rattle.table_arrays.specs.declared.places.ExactPlaces.{ExactPlaces}
