@@ -1,4 +1,3 @@
 mod FaceLemmas
-mod PlaceLemmas
 mod QuarterLemmas
 mod StepLemmas

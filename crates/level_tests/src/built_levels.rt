@@ -1,33 +1,21 @@
-// Levels from a builder, compared with tables.
+// Levels of meshes, compared with tables.
 
-use crate::meshes::{Mesh, with_level};
+ghost use Rattle.std.specs.Prelude.{◌≡◌, ◌<◌};
+
 use crate::shown::expect_shown;
-use crate::solids::{INFINITE, Solid, ZERO};
-use ratio128::Memory;
-use sharpness_rules::Method;
+use mesh_check::check_mesh;
+use obj_tags::read_obj;
+use ratio128::Steps;
 use std::alloc::Global;
+use std::marker::Brand;
 use std::process::Abort;
+use std::sync::ledger::{Blank, Ledger};
+use std::test::Fail;
 
 // The cube.
-const CUBE: Mesh<'static> = Mesh {
-    solid: &Solid {
-        points: 8,
-        faces: &[
-            &[0, 3, 2, 1],
-            &[4, 5, 6, 7],
-            &[0, 1, 5, 4],
-            &[1, 2, 6, 5],
-            &[2, 3, 7, 6],
-            &[3, 0, 4, 7],
-        ],
-    },
-    method: Method::Normal,
-    holes: &[],
-    edges: &[],
-    vertices: &[],
-    complete_from: 0,
-    key: None,
-};
+const CUBE: &str = "\
+    v 0 0 0\nv 0 0 0\nv 0 0 0\nv 0 0 0\nv 0 0 0\nv 0 0 0\nv 0 0 0\nv 0 0 0\n\
+    f 1 4 3 2\nf 5 6 7 8\nf 1 2 6 5\nf 2 3 7 6\nf 3 4 8 7\nf 4 1 5 8\n";
 
 const CUBE_LINES: &str = "\
 Normal
@@ -61,24 +49,12 @@ point ([1, 5, 4], [3, 3, 2], [6, 7, 11], [1, 0, 1], (0, 1), true)
 
 // Four quads over three by three points. One is a hole, and one point has no faces. Two edges and two points get a sharpness
 // twice.
-const GRID: Mesh<'static> = Mesh {
-    solid: &Solid {
-        points: 10,
-        faces: &[&[0, 1, 4, 3], &[1, 2, 5, 4], &[3, 4, 7, 6], &[4, 5, 8, 7]],
-    },
-    method: Method::Chaikin,
-    holes: &[2],
-    edges: &[
-        (1, 0, ZERO),
-        (4, 5, INFINITE),
-        (0, 1, INFINITE),
-        (5, 4, ZERO),
-        (8, 7, INFINITE),
-    ],
-    vertices: &[(4, INFINITE), (8, ZERO), (8, INFINITE), (4, ZERO)],
-    complete_from: 0,
-    key: None,
-};
+const GRID: &str = "\
+    v 0 0 0\nv 0 0 0\nv 0 0 0\nv 0 0 0\nv 0 0 0\nv 0 0 0\nv 0 0 0\nv 0 0 0\nv 0 0 0\nv 0 0 0\n\
+    f 1 2 5 4\nf 2 3 6 5\nf 4 5 8 7\nf 5 6 9 8\n\
+    t creasemethod 0/0/1 chaikin\nt interpolateboundary 1/0/0 2\nt hole 1/0/0 2\n\
+    t crease 2/1/0 1 4 10\nt crease 2/1/0 4 5 10\nt crease 2/1/0 5 4 0\nt crease 2/1/0 4 1 1/2\n\
+    t corner 1/1/0 4 10\nt corner 1/1/0 8 0\nt corner 1/1/0 8 10\nt corner 1/1/0 4 0\n";
 
 const GRID_LINES: &str = "\
 Chaikin
@@ -87,16 +63,16 @@ face ([1, 2, 5, 4], [4, 5, 6, 1], false)
 face ([3, 4, 7, 6], [2, 7, 8, 9], true)
 face ([4, 5, 8, 7], [6, 10, 11, 7], false)
 edge ((0, 1), 0, None, (10, 1))
-edge ((1, 4), 0, Some(1), (0, 1))
+edge ((1, 4), 0, Some(1), (1, 2))
 edge ((4, 3), 0, Some(2), (0, 1))
-edge ((3, 0), 0, None, (0, 1))
-edge ((1, 2), 1, None, (0, 1))
-edge ((2, 5), 1, None, (0, 1))
+edge ((3, 0), 0, None, (10, 1))
+edge ((1, 2), 1, None, (10, 1))
+edge ((2, 5), 1, None, (10, 1))
 edge ((5, 4), 1, Some(3), (0, 1))
 edge ((4, 7), 2, Some(3), (0, 1))
-edge ((7, 6), 2, None, (0, 1))
-edge ((6, 3), 2, None, (0, 1))
-edge ((5, 8), 3, None, (0, 1))
+edge ((7, 6), 2, None, (10, 1))
+edge ((6, 3), 2, None, (10, 1))
+edge ((5, 8), 3, None, (10, 1))
 edge ((8, 7), 3, None, (10, 1))
 point ([0], [0], [3, 0], [1, 0], (0, 1), true)
 point ([0, 1], [1, 0], [0, 1, 4], [1, 0, 0], (0, 1), true)
@@ -111,18 +87,7 @@ point ([], [], [], [], (0, 1), true)
 ";
 
 // Two triangles back to back.
-const PAIR: Mesh<'static> = Mesh {
-    solid: &Solid {
-        points: 3,
-        faces: &[&[0, 1, 2], &[0, 2, 1]],
-    },
-    method: Method::Normal,
-    holes: &[],
-    edges: &[],
-    vertices: &[],
-    complete_from: 0,
-    key: None,
-};
+const PAIR: &str = "v 0 0 0\nv 0 0 0\nv 0 0 0\nf 1 2 3\nf 1 3 2\n";
 
 const PAIR_LINES: &str = "\
 Normal
@@ -136,107 +101,39 @@ point ([0, 1], [1, 2], [0, 1], [1, 0], (0, 1), true)
 point ([0, 1], [2, 1], [1, 2], [1, 0], (0, 1), true)
 ";
 
-// Two triangles that meet at a point, which is not complete, and a third at an edge of the second.
-const TIE: Mesh<'static> = Mesh {
-    solid: &Solid {
-        points: 6,
-        faces: &[&[3, 0, 4], &[1, 2, 0], &[2, 1, 5]],
-    },
-    method: Method::Normal,
-    holes: &[],
-    edges: &[],
-    vertices: &[],
-    complete_from: 1,
-    key: None,
-};
+// Texts of meshes, and of their levels.
+const BUILT: &[(&str, &str)] = &[(CUBE, CUBE_LINES), (GRID, GRID_LINES), (PAIR, PAIR_LINES)];
 
-const TIE_LINES: &str = "\
-Normal
-face ([3, 0, 4], [0, 1, 2], false)
-face ([1, 2, 0], [3, 4, 5], false)
-face ([2, 1, 5], [3, 6, 7], false)
-edge ((3, 0), 0, None, (0, 1))
-edge ((0, 4), 0, None, (0, 1))
-edge ((4, 3), 0, None, (0, 1))
-edge ((1, 2), 1, Some(2), (0, 1))
-edge ((2, 0), 1, None, (0, 1))
-edge ((0, 1), 1, None, (0, 1))
-edge ((1, 5), 2, None, (0, 1))
-edge ((5, 2), 2, None, (0, 1))
-point ([0, 1], [1, 2], [0, 1, 4, 5], [1, 0, 1, 0], (0, 1), false)
-point ([1, 2], [0, 1], [5, 3, 6], [1, 0, 0], (0, 1), true)
-point ([2, 1], [0, 1], [7, 3, 4], [1, 1, 0], (0, 1), true)
-point ([0], [0], [2, 0], [1, 0], (0, 1), true)
-point ([0], [2], [1, 2], [1, 0], (0, 1), true)
-point ([2], [2], [6, 7], [1, 0], (0, 1), true)
-";
-
-// The square.
-const SQUARE: Mesh<'static> = Mesh {
-    solid: &Solid {
-        points: 4,
-        faces: &[&[0, 1, 2, 3]],
-    },
-    method: Method::Normal,
-    holes: &[],
-    edges: &[
-        (0, 1, INFINITE),
-        (1, 2, INFINITE),
-        (2, 3, INFINITE),
-        (3, 0, INFINITE),
-    ],
-    vertices: &[(3, INFINITE)],
-    complete_from: 0,
-    key: None,
-};
-
-const SQUARE_LINES: &str = "\
-Normal
-face ([0, 1, 2, 3], [0, 1, 2, 3], false)
-edge ((0, 1), 0, None, (10, 1))
-edge ((1, 2), 0, None, (10, 1))
-edge ((2, 3), 0, None, (10, 1))
-edge ((3, 0), 0, None, (10, 1))
-point ([0], [0], [3, 0], [1, 0], (0, 1), true)
-point ([0], [1], [0, 1], [1, 0], (0, 1), true)
-point ([0], [2], [1, 2], [1, 0], (0, 1), true)
-point ([0], [3], [2, 3], [1, 0], (10, 1), true)
-";
-
-// Meshes, and the texts of their levels.
-const BUILT: &[(Mesh<'static>, &str)] = &[
-    (CUBE, CUBE_LINES),
-    (GRID, GRID_LINES),
-    (PAIR, PAIR_LINES),
-    (TIE, TIE_LINES),
-    (SQUARE, SQUARE_LINES),
-];
-
-fn built() -> &'static [(Mesh<'static>, &'static str)] {
+fn built() -> &'static [(&'static str, &'static str)] {
     BUILT
 }
 
-pub fn square_lines() -> &'static str {
-    SQUARE_LINES
+fn expect_level<L: Ledger>(
+    rt: &impl Abort,
+    alloc: Global,
+    text: &str,
+    want: &str,
+    steps: &mut Steps<L>,
+) -> Result<(), Fail> {
+    assert!(rt; text.len() < 1 << 28);
+    let mesh = read_obj(alloc, text.as_bytes(), 0)?;
+    let level = check_mesh(alloc, &mesh, steps)?;
+    Ok(expect_shown(rt, alloc, &level, want)?)
 }
 
-fn expect_built(rt: &impl Abort, alloc: Global, mesh: &Mesh, want: &str) -> Result<(), Memory> {
-    with_level(
-        rt,
-        alloc,
-        mesh,
-        |level| expect_shown(rt, alloc, level, want),
-    )
-}
-
-fn expect_all_built(rt: &impl Abort, alloc: Global) -> Result<(), Memory> {
-    for (mesh, want) in built() {
-        expect_built(rt, alloc, mesh, want)?;
+fn expect_built<L: Ledger>(rt: &impl Abort, alloc: Global, blank: Blank) -> Result<(), Fail>
+    requires name { blank.name ≡ L.name }
+    requires parts { blank.parts ≡ L.parts }
+    requires some { 0 < blank.parts }
+{
+    let mut steps = Steps::start(blank.open::<L>());
+    for (text, want) in built() {
+        expect_level(rt, alloc, text, want, &mut steps)?;
     }
     Ok(())
 }
 
 #[test]
-fn builds_levels(rt: HostRuntime) -> Result<(), Memory> {
-    expect_all_built(&rt, rt.alloc())
+fn builds_levels(rt: HostRuntime) -> Result<(), Fail> {
+    expect_built::<Brand>(&rt, rt.alloc(), Blank::new(1))
 }

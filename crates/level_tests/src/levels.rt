@@ -7,7 +7,6 @@ ghost use Rattle.sharpness_rules.specs.View.{sharpness_of};
 ghost use Rattle.level_topology.specs.Rows.{no_rows, with_vertex};
 ghost use Rattle.level_tests.specs.Squares.{square, quarter, square_rows, quarter_rows, quarter_child, IsQuarter};
 
-use crate::built_levels::square_lines;
 use crate::expect::expect_same;
 use crate::shown::expect_shown;
 use level_topology::{Child, EdgeFaces, FacePlace, Level, LevelRows, Origin};
@@ -160,6 +159,24 @@ fn expect_quarter(rt: &impl Abort, child: &Child)
     expect_same(rt, &level.is_complete(0), &false, &"mark");
 }
 
+// The square: its edges are infinitely sharp, and so is point 3.
+const SQUARE_LINES: &str = "\
+Normal
+face ([0, 1, 2, 3], [0, 1, 2, 3], false)
+edge ((0, 1), 0, None, (10, 1))
+edge ((1, 2), 0, None, (10, 1))
+edge ((2, 3), 0, None, (10, 1))
+edge ((3, 0), 0, None, (10, 1))
+point ([0], [0], [3, 0], [1, 0], (0, 1), true)
+point ([0], [1], [0, 1], [1, 0], (0, 1), true)
+point ([0], [2], [1, 2], [1, 0], (0, 1), true)
+point ([0], [3], [2, 3], [1, 0], (10, 1), true)
+";
+
+fn square_lines() -> &'static str {
+    SQUARE_LINES
+}
+
 fn expect_joined<L: Ledger>(
     rt: &impl Abort,
     alloc: Global,
@@ -173,44 +190,18 @@ fn expect_joined<L: Ledger>(
     Ok(())
 }
 
-fn expect_parent<L: Ledger>(
-    rt: &impl Abort,
-    alloc: Global,
-    level: &Level,
-    steps: &mut Steps<L>,
-) -> Result<(), Memory>
-    requires { level.now ≡ square }
-{
-    expect_shown(rt, alloc, level, square_lines())?;
-    expect_joined(rt, alloc, level, steps)
-}
-
-fn expect_square<L: Ledger>(
-    rt: &impl Abort,
-    alloc: Global,
-    steps: &mut Steps<L>,
-) -> Result<(), Memory> {
-    let level = make_square(alloc, steps)?;
-    expect_parent(rt, alloc, &level, steps)
-}
-
-fn expect_square_counted<L: Ledger>(
-    rt: &impl Abort,
-    alloc: Global,
-    blank: Blank,
-) -> Result<(), Memory>
+fn expect_square<L: Ledger>(rt: &impl Abort, alloc: Global, blank: Blank) -> Result<(), Memory>
     requires name { blank.name ≡ L.name }
     requires parts { blank.parts ≡ L.parts }
     requires some { 0 < blank.parts }
 {
-    expect_square(rt, alloc, &mut Steps::start(blank.open::<L>()))
-}
-
-fn expect_made_square(rt: &impl Abort, alloc: Global) -> Result<(), Memory> {
-    expect_square_counted::<Brand>(rt, alloc, Blank::new(1))
+    let mut steps = Steps::start(blank.open::<L>());
+    let level = make_square(alloc, &mut steps)?;
+    expect_shown(rt, alloc, &level, square_lines())?;
+    expect_joined(rt, alloc, &level, &mut steps)
 }
 
 #[test]
 fn finishes_the_square_and_joins_one_quarter(rt: HostRuntime) -> Result<(), Memory> {
-    expect_made_square(&rt, rt.alloc())
+    expect_square::<Brand>(&rt, rt.alloc(), Blank::new(1))
 }

@@ -1,4 +1,4 @@
-// A step that makes only one quarter of the square, walked with values and with a table.
+// A step that makes only one quarter of the square, walked with values.
 
 ghost use Rattle.std.specs.Prelude.{◌≡◌, ◌<◌, [], ◌∷◌, true, length, IfOk};
 ghost use Rattle.std.specs.List.{All};
@@ -9,7 +9,7 @@ ghost use Rattle.level_tests.specs.Values.{IsNearPoint};
 
 use crate::expect::expect_same;
 use crate::levels::{join_to, make_square};
-use channel_refine::{ByTable, ByValues};
+use channel_refine::ByValues;
 use level_topology::{Child, Level};
 use level_walk::{Cause, Dropped, NextLevel, Reached, WalkFault, walk};
 use mask_rules::Scheme;
@@ -19,8 +19,6 @@ use std::alloc::Global;
 use std::marker::{Brand, PhantomData};
 use std::process::Abort;
 use std::sync::ledger::{Blank, Ledger};
-use stencil_apply::{Entry, StencilTable};
-use stencil_factory::identity;
 
 // Returns the quarter of the square.
 fn quarter_of<L: Ledger>(alloc: Global, level: &Level, steps: &mut Steps<L>) -> Result<Child, Cause>
@@ -134,43 +132,6 @@ fn values() -> &'static [ValueCase] {
     VALUES
 }
 
-// A row of a table: its denominator, and its control points with their numerators.
-type Row = (u128, &'static [Entry]);
-
-// Control points, each with its numerator.
-macro_rules! entries {
-    ($($index:literal $numerator:literal),*) => {
-        &[$(Entry { index: $index, numerator: $numerator }),*]
-    };
-}
-
-const SQUARE_ROWS: &[Row] = &[
-    (1, entries![0 1]),
-    (1, entries![1 1]),
-    (1, entries![2 1]),
-    (1, entries![3 1]),
-];
-
-const QUARTER_ROWS: &[Row] = &[
-    (8, entries![0 1, 1 6, 2 1]),
-    (4, entries![0 1, 1 1, 2 1, 3 1]),
-    (2, entries![0 1, 1 1]),
-    (2, entries![1 1, 2 1]),
-];
-
-// A depth, and the rows there or the fault of the walk.
-type TableCase = (u32, Result<&'static [Row], WalkFault>);
-
-const TABLES: &[TableCase] = &[
-    (0, Ok(SQUARE_ROWS)),
-    (1, Ok(QUARTER_ROWS)),
-    (2, Err(AFTER_QUARTER)),
-];
-
-fn tables() -> &'static [TableCase] {
-    TABLES
-}
-
 // Returns the data at the end of a walk, or its fault.
 fn carried_of<C: Drop>(end: Result<Reached<Level, C>, WalkFault>) -> Result<C, WalkFault> {
     let Reached { level, carried } = end?;
@@ -193,25 +154,6 @@ fn walk_values<L: Ledger>(
         scheme: Scheme::CatmullClark,
         most: MOST,
         of: PhantomData,
-    };
-    let start = Reached { level, carried };
-    carried_of(walk(alloc, &Quarter, &by, &mut Dropped, start, depth, steps))
-}
-
-// Returns the table at a depth, or the fault of the walk.
-fn walk_table<L: Ledger>(
-    alloc: Global,
-    level: Level,
-    carried: StencilTable,
-    depth: u32,
-    steps: &mut Steps<L>,
-) -> Result<StencilTable, WalkFault>
-    requires level { level ≡ square }
-    requires table { length carried.rows ≡ 4 }
-{
-    let by = ByTable {
-        scheme: Scheme::CatmullClark,
-        most: MOST,
     };
     let start = Reached { level, carried };
     carried_of(walk(alloc, &Quarter, &by, &mut Dropped, start, depth, steps))
@@ -268,99 +210,20 @@ fn expect_values<L: Ledger>(
     Ok(())
 }
 
-// The table returns this row.
-fn expect_row(rt: &impl Abort, table: &StencilTable, row: u32, want: &Row)
-    requires { row < length table.now.rows }
-{
-    let &(den, entries) = want;
-    expect_same(rt, &table.denominator(row), &den, want);
-    expect_same(rt, &(table.row_len(row) as usize), &entries.len(), want);
-    for at in 0..table.row_len(row) {
-        let (index, numerator) = (table.index(row, at), table.numerator(row, at));
-        let entry = Entry { index, numerator };
-        expect_same(rt, &Some(&entry), &entries.get(at as usize), want);
-    }
-}
-
-// The table has these rows.
-fn expect_rows(rt: &impl Abort, table: &StencilTable, rows: &[Row]) {
-    assert!(rt; rows.len() == table.rows() as usize);
-    for row in 0..table.rows() {
-        expect_row(rt, table, row, &rows[row as usize]);
-    }
-}
-
-// The walked table, or the fault of the walk, is that of the case.
-fn expect_composed(rt: &impl Abort, given: &Result<StencilTable, WalkFault>, case: &TableCase) {
-    expect_same(rt, &given.as_ref().err(), &case.1.as_ref().err(), case);
-    if let (Ok(table), Ok(rows)) = (given, case.1) {
-        expect_rows(rt, table, rows);
-    }
-}
-
-// Walks the table of the square to the depth of the case.
-fn expect_table<L: Ledger>(
-    rt: &impl Abort,
-    alloc: Global,
-    case: &TableCase,
-    steps: &mut Steps<L>,
-) -> Result<(), Memory> {
-    let carried = identity(alloc, 4)?;
-    let level = make_square(alloc, steps)?;
-    let given = walk_table(alloc, level, carried, case.0, steps);
-    expect_composed(rt, &given, case);
-    Ok(())
-}
-
 // Walks values to each depth.
-fn expect_all_values<L: Ledger>(
-    rt: &impl Abort,
-    alloc: Global,
-    steps: &mut Steps<L>,
-) -> Result<(), Memory> {
-    for case in values() {
-        expect_values(rt, alloc, case, steps)?;
-    }
-    Ok(())
-}
-
-// Walks a table to each depth.
-fn expect_all_tables<L: Ledger>(
-    rt: &impl Abort,
-    alloc: Global,
-    steps: &mut Steps<L>,
-) -> Result<(), Memory> {
-    for case in tables() {
-        expect_table(rt, alloc, case, steps)?;
-    }
-    Ok(())
-}
-
-// Walks values and a table to each depth.
-fn expect_all<L: Ledger>(
-    rt: &impl Abort,
-    alloc: Global,
-    steps: &mut Steps<L>,
-) -> Result<(), Memory> {
-    expect_all_values(rt, alloc, steps)?;
-    expect_all_tables(rt, alloc, steps)
-}
-
-// Opens the counter of steps.
-fn expect_all_counted<L: Ledger>(rt: &impl Abort, alloc: Global, blank: Blank) -> Result<(), Memory>
+fn expect_walks<L: Ledger>(rt: &impl Abort, alloc: Global, blank: Blank) -> Result<(), Memory>
     requires name { blank.name ≡ L.name }
     requires parts { blank.parts ≡ L.parts }
     requires some { 0 < blank.parts }
 {
-    expect_all(rt, alloc, &mut Steps::start(blank.open::<L>()))
-}
-
-// Makes a counter.
-fn expect_all_walks(rt: &impl Abort, alloc: Global) -> Result<(), Memory> {
-    expect_all_counted::<Brand>(rt, alloc, Blank::new(1))
+    let mut steps = Steps::start(blank.open::<L>());
+    for case in values() {
+        expect_values(rt, alloc, case, &mut steps)?;
+    }
+    Ok(())
 }
 
 #[test]
 fn walks_a_quarter_of_the_square(rt: HostRuntime) -> Result<(), Memory> {
-    expect_all_walks(&rt, rt.alloc())
+    expect_walks::<Brand>(&rt, rt.alloc(), Blank::new(1))
 }

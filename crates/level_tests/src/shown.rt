@@ -4,12 +4,21 @@ ghost use Rattle.std.specs.Prelude.{◌<◌, length};
 ghost use Rattle.subdiv_model.specs.Edges.{edges_of};
 
 use crate::expect::expect_same;
-use crate::meshes::fraction_of;
 use level_topology::{EdgeFaces, Level};
 use ratio128::Memory;
+use sharpness_rules::Sharpness;
 use std::alloc::Global;
 use std::fmt::{self, Display, Formatter, Write};
 use std::process::Abort;
+
+// A sharpness as a fraction.
+fn fraction_of(s: Sharpness) -> (u64, u64) {
+    match s {
+        Sharpness::Smooth => (0, 1),
+        Sharpness::Semi(value) => (value.num(), value.den()),
+        Sharpness::Infinite => (10, 1),
+    }
+}
 
 // Shows for each face its corners, its edges and whether it is a hole; for each edge its ends, its faces and its sharpness;
 // for each point its faces with its corners there, its edges with its ends there, its sharpness and its mark.
@@ -62,10 +71,6 @@ impl Display for Shown<'_> {
     }
 }
 
-pub fn text_of(alloc: Global, level: &Level) -> Result<String, Memory> {
-    Ok(format!(in alloc; "{}", Shown(level))?)
-}
-
 // The text of the level is this one.
 pub fn expect_shown(
     rt: &impl Abort,
@@ -73,7 +78,7 @@ pub fn expect_shown(
     level: &Level,
     want: &str,
 ) -> Result<(), Memory> {
-    let text = text_of(alloc, level)?;
+    let text = format!(in alloc; "{}", Shown(level))?;
     expect_same(rt, &text.as_str(), &want, &"level");
     Ok(())
 }
