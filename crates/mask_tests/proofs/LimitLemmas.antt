@@ -1,15 +1,11 @@
--- The conditions of limit points on a level whose points are complete and whose edges have two faces, and the rows of a great
--- table.
-use Rattle.std.proofs.Common.{◌≡◌, ℕ, zero, suc, ◌<◌, ◌≤◌, Bool, true, false, IsTrue, not, ◌||◌, nat_eq, List, [], ◌∷◌, length, get_or, replicate, arith, refl, ap, ◌∙◌}
+-- The conditions of limit points on a level whose points are complete and whose edges have two faces.
+use Rattle.std.proofs.Common.{◌≡◌, ℕ, zero, suc, ◌<◌, Bool, true, false, IsTrue, not, ◌||◌, nat_eq, List, [], ◌∷◌, length, get_or, replicate, arith, refl, ap, ◌∙◌}
 use Rattle.std.proofs.lemmas.List.{get_or_default}
-use Rattle.std.proofs.lemmas.List.Elements.{All-nil, All-cons}
-use Rattle.std.proofs.lemmas.List.Sums.{list_all-from_AllPass, sum_by-cons}
-use Rattle.subdiv_model.specs.Channel.{number_bound}
+use Rattle.std.proofs.lemmas.List.Sums.{list_all-from_AllPass}
 use Rattle.subdiv_model.specs.Edges.{edges_of, faces_of_edge, is_boundary}
 use Rattle.subdiv_model.specs.Level.{Level, edge_sharpness_of}
 use Rattle.mask_laws.specs.SharpBoundary.{has_sharp_boundary, is_infinite}
 use Rattle.level_topology.specs.Topology.{edge_at}
-use Rattle.stencil_apply.specs.Table.{Share, IsRow}
 
 -- all marks are true
 pub all-marked : (marks : List Bool) (points : ℕ) → length marks ≡ points → ((v : ℕ) → v < points → get_or marks v false ≡ true) → marks ≡ replicate points true
@@ -30,14 +26,3 @@ closed-sharp level closed =
     let faces : length (faces_of_edge level.polygons edge) ≡ 2 =
     ap (λ s. length (faces_of_edge level.polygons s)) (get_or_default (edges_of level.polygons) e d (0, 0) h) ∙ closed e h in
     ap (λ n. not (nat_eq n 1) || is_infinite (edge_sharpness_of level edge)) faces)
-
--- a row that is the one control point
-pub own-row : (controls den : ℕ) → controls ≡ 1 → 0 < den → den ≤ number_bound → IsRow controls (record { den = den; shares = (0, den) ∷ [] })
-own-row controls den one positive short = record {
-  positive = positive;
-  short = short;
-  ascending = λ k lt. absurd (omega (arith, lt));
-  inside = All-cons (λ (share : Share). share.0 < controls) (0, den) [] (omega (arith, one)) (All-nil (λ (share : Share). share.0 < controls));
-  each = All-cons (λ (share : Share). 0 < share.1) (0, den) [] positive (All-nil (λ (share : Share). 0 < share.1));
-  whole = omega (arith, sum_by-cons (λ (share : Share). share.1) (0, den) []);
-}

@@ -1,4 +1,4 @@
-// Masks of closed meshes and of an open grid, row by row.
+// Masks of vertices of closed meshes, of an open grid and of wheels, row by row.
 
 ghost use Rattle.std.specs.Prelude.{◌≡◌, ◌<◌, true, false, IsTrue, length, get_or};
 ghost use Rattle.subdiv_model.specs.Edges.{edges_of, faces_of_edge, has_end, is_boundary};
@@ -6,16 +6,18 @@ ghost use Rattle.subdiv_model.specs.Sharpness.{Smooth, Infinite, is_chaikin};
 ghost use Rattle.level_topology.specs.Topology.{edge_at};
 ghost use Rattle.mask_rules.specs.Around.{HasSharpBoundaryAt};
 
-use crate::edge_rows::{EdgeRow, edges, faces};
 use crate::expect::expect_same;
-use crate::meshes::{self, with_level};
-use crate::solids::{Mesh, ZERO};
-use crate::vertex_rows::{VertexRow, refused, vertices};
+use crate::meshes::level_of;
+use crate::vertex_rows::{VertexRow, vertices};
 use level_topology::Level;
-use mask_rules::{At, MadeMask, MaskFault, Scheme, Term, VertexMask, face_mask, vertex_mask};
+use mask_rules::{At, MaskFault, Scheme, Term, VertexMask, vertex_mask};
+use ratio128::Steps;
 use sharpness_rules::{Method, Sharpness};
 use std::alloc::Global;
+use std::marker::Brand;
 use std::process::Abort;
+use std::sync::ledger::{Blank, Ledger};
+use std::test::Fail;
 
 // Returns whether an edge has two faces.
 pub fn has_two_faces(level: &Level, e: u32) -> bool
@@ -78,27 +80,17 @@ fn is_uniform(level: &Level) -> bool
 }
 
 // Returns the mask of a vertex, after tests of the conditions of `vertex_mask`.
-pub fn mask_of_vertex(
+fn mask_of_vertex(
     rt: &impl Abort,
     alloc: Global,
     level: &Level,
     v: u32,
-    scheme: Scheme,
 ) -> Result<VertexMask, MaskFault> {
     assert!(rt; v < level.points());
     assert!(rt; level.is_complete(v));
     assert!(rt; is_uniform(level));
     assert_sharp_boundary(rt, level, v);
-    vertex_mask(alloc, level, v, scheme)
-}
-
-// Returns the mask of an edge, after tests of the conditions of `put_edge`.
-fn mask_of_edge(rt: &impl Abort, level: &Level, e: u32, scheme: Scheme) -> MadeMask {
-    assert!(rt; e < level.edges());
-    assert!(rt; has_two_faces(level, e) || is_infinite(level, e));
-    let mut mask = MadeMask::new();
-    mask.put_edge(level, e, scheme);
-    mask
+    vertex_mask(alloc, level, v, Scheme::CatmullClark)
 }
 
 fn has_term(terms: &[Term], at: At, weight: u128) -> bool {
@@ -111,138 +103,53 @@ fn has_term(terms: &[Term], at: At, weight: u128) -> bool {
 }
 
 // The mask has these terms in any order and no others; each source occurs once.
-fn expect_terms(rt: &impl Abort, terms: &[Term], points: &[(u32, u128)], faces: &[(u32, u128)]) {
-    expect_same(rt, &terms.len(), &(points.len() + faces.len()), &points);
-    for (v, weight) in points {
-        expect_same(rt, &has_term(terms, At::Point(*v), *weight), &true, v);
+fn expect_terms(rt: &impl Abort, mask: &VertexMask, row: &VertexRow) {
+    let counts = (mask.terms().len(), mask.denominator());
+    let count = row.points.len() + row.faces.len();
+    expect_same(rt, &counts, &(count, row.denominator), &row.points);
+    for (v, weight) in row.points {
+        expect_same(
+            rt,
+            &has_term(mask.terms(), At::Point(*v), *weight),
+            &true,
+            &row.points,
+        );
     }
-    for (f, weight) in faces {
-        expect_same(rt, &has_term(terms, At::FacePoint(*f), *weight), &true, f);
+    for (f, weight) in row.faces {
+        expect_same(
+            rt,
+            &has_term(mask.terms(), At::FacePoint(*f), *weight),
+            &true,
+            &row.faces,
+        );
     }
 }
 
-// The linear scheme keeps the place of a vertex.
-fn expect_kept(rt: &impl Abort, alloc: Global, level: &Level, v: u32) -> Result<(), MaskFault> {
-    let mask = mask_of_vertex(rt, alloc, level, v, Scheme::Linear)?;
-    expect_terms(rt, mask.terms(), &[(v, 1)], &[]);
-    expect_same(rt, &mask.denominator(), &1, &v);
-    Ok(())
-}
-
-fn expect_masks(
+fn expect_mask<L: Ledger>(
     rt: &impl Abort,
     alloc: Global,
-    level: &Level,
     row: &VertexRow,
-) -> Result<(), MaskFault> {
-    let mask = mask_of_vertex(rt, alloc, level, row.mesh.2, Scheme::CatmullClark)?;
-    expect_terms(rt, mask.terms(), row.points, row.faces);
-    expect_same(rt, &mask.denominator(), &row.denominator, &row.points);
-    expect_kept(rt, alloc, level, row.mesh.2)
+    steps: &mut Steps<L>,
+) -> Result<(), Fail> {
+    let level = level_of(rt, alloc, row.mesh, steps)?;
+    let mask = mask_of_vertex(rt, alloc, &level, row.mesh.2)?;
+    expect_terms(rt, &mask, row);
+    Ok(())
 }
 
-// Only Catmull and Clark's scheme refuses a mask.
-fn expect_refusal(
-    rt: &impl Abort,
-    alloc: Global,
-    level: &Level,
-    mesh: Mesh,
-) -> Result<(), MaskFault> {
-    let fault = mask_of_vertex(rt, alloc, level, mesh.2, Scheme::CatmullClark).err();
-    expect_same(rt, &fault, &Some(MaskFault::Transition), &mesh.1);
-    expect_kept(rt, alloc, level, mesh.2)
-}
-
-// The linear scheme uses the middle of the two points.
-fn expect_middle(rt: &impl Abort, level: &Level, e: u32, points: &[(u32, u128)]) {
-    let mask = mask_of_edge(rt, level, e, Scheme::Linear);
-    expect_same(rt, &mask.terms().len(), &2, &points);
-    for (v, _) in points {
-        expect_same(rt, &has_term(mask.terms(), At::Point(*v), 1), &true, v);
-    }
-    expect_same(rt, &mask.denominator(), &2, &points);
-}
-
-fn expect_edge_masks(rt: &impl Abort, level: &Level, row: &EdgeRow) {
-    let mask = mask_of_edge(rt, level, row.edge, Scheme::CatmullClark);
-    expect_terms(rt, mask.terms(), row.points, row.faces);
-    expect_same(rt, &mask.denominator(), &row.denominator, &row.points);
-    expect_middle(rt, level, row.edge, row.points);
-}
-
-fn expect_size(rt: &impl Abort, level: &Level, f: u32, size: u32) {
-    assert!(rt; f < level.faces());
-    expect_same(rt, &face_mask(level, f).size(), &size, &size);
-}
-
-// The expected result for the level of a mesh.
-#[derive(Clone, Copy)]
-enum Case {
-    Vertex(&'static VertexRow),
-    Refusal(Mesh),
-    Edge(&'static EdgeRow),
-    Face { f: u32, size: u32 },
-}
-
-fn expect_on(rt: &impl Abort, alloc: Global, level: &Level, case: Case) -> Result<(), MaskFault> {
-    match case {
-        Case::Vertex(row) => expect_masks(rt, alloc, level, row),
-        Case::Refusal(mesh) => expect_refusal(rt, alloc, level, mesh),
-        Case::Edge(row) => {
-            expect_edge_masks(rt, level, row);
-            Ok(())
-        }
-        Case::Face { f, size } => {
-            expect_size(rt, level, f, size);
-            Ok(())
-        }
-    }
-}
-
-fn expect_case(rt: &impl Abort, alloc: Global, mesh: Mesh, case: Case) -> Result<(), MaskFault> {
-    let (solid, edges, vertex, sharpness) = mesh;
-    let mesh = meshes::Mesh {
-        edges,
-        vertices: &[(vertex, sharpness)],
-        ..meshes::smooth_mesh(solid)
-    };
-    with_level(rt, alloc, &mesh, |level| expect_on(rt, alloc, level, case))
-}
-
-#[test]
-fn masks_vertices(rt: HostRuntime) -> Result<(), MaskFault> {
+fn expect_masks<L: Ledger>(rt: &impl Abort, alloc: Global, blank: Blank) -> Result<(), Fail>
+    requires name { blank.name ≡ L.name }
+    requires parts { blank.parts ≡ L.parts }
+    requires some { 0 < blank.parts }
+{
+    let mut steps = Steps::start(blank.open::<L>());
     for row in vertices() {
-        expect_case(&rt, rt.alloc(), row.mesh, Case::Vertex(row))?;
+        expect_mask(rt, alloc, row, &mut steps)?;
     }
     Ok(())
 }
 
 #[test]
-fn refuses_a_weight_past_the_greatest_denominator(rt: HostRuntime) -> Result<(), MaskFault> {
-    for mesh in refused() {
-        expect_case(&rt, rt.alloc(), *mesh, Case::Refusal(*mesh))?;
-    }
-    Ok(())
-}
-
-#[test]
-fn masks_an_edge_by_its_sharpness(rt: HostRuntime) -> Result<(), MaskFault> {
-    for row in edges() {
-        expect_case(&rt, rt.alloc(), row.mesh, Case::Edge(row))?;
-    }
-    Ok(())
-}
-
-#[test]
-fn masks_a_face_by_its_corners(rt: HostRuntime) -> Result<(), MaskFault> {
-    for row in faces() {
-        let &(solid, f, size) = row;
-        expect_case(
-            &rt,
-            rt.alloc(),
-            (solid, &[], 0, ZERO),
-            Case::Face { f, size },
-        )?;
-    }
-    Ok(())
+fn masks_vertices(rt: HostRuntime) -> Result<(), Fail> {
+    expect_masks::<Brand>(&rt, rt.alloc(), Blank::new(1))
 }

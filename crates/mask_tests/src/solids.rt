@@ -111,3 +111,42 @@ pub const OCTAHEDRON: &Solid<'static> = &Solid {
         &[0, 3, 5],
     ],
 };
+
+// Eight triangles about point 0.
+pub const WHEEL_8: &Solid<'static> = &Solid {
+    points: 9,
+    faces: &[
+        &[0, 1, 8],
+        &[0, 2, 1],
+        &[0, 3, 2],
+        &[0, 4, 3],
+        &[0, 5, 4],
+        &[0, 6, 5],
+        &[0, 7, 6],
+        &[0, 8, 7],
+    ],
+};
+
+// Seventeen triangles about point 0.
+pub const WHEEL_17: &Solid<'static> = &Solid {
+    points: 18,
+    faces: &[
+        &[0, 1, 17],
+        &[0, 2, 1],
+        &[0, 3, 2],
+        &[0, 4, 3],
+        &[0, 5, 4],
+        &[0, 6, 5],
+        &[0, 7, 6],
+        &[0, 8, 7],
+        &[0, 9, 8],
+        &[0, 10, 9],
+        &[0, 11, 10],
+        &[0, 12, 11],
+        &[0, 13, 12],
+        &[0, 14, 13],
+        &[0, 15, 14],
+        &[0, 16, 15],
+        &[0, 17, 16],
+    ],
+};

@@ -2,7 +2,7 @@
 
 use crate::solids::{
     CUBE, DISC, Fraction, GRID, HALF, HALF_OF_TOP, INFINITE, Mesh, OCTAHEDRON, ONE, PAIR, QUARTER,
-    RIM, RIM_AND_SPOKE, THREE, THREE_HALVES, TOP, TWO, ZERO,
+    RIM, RIM_AND_SPOKE, THREE, THREE_HALVES, TOP, TWO, WHEEL_8, WHEEL_17, ZERO,
 };
 
 // A mesh with the mask of its point: the weights of points and of new face points.
@@ -121,6 +121,75 @@ const VERTICES: &[VertexRow] = &[
         points: &[(0, 1), (1, 1), (2, 1), (3, 1), (4, 8)],
         faces: &[(0, 1), (1, 1), (2, 1), (3, 1)],
         denominator: 16,
+    },
+    // Points of eight and of seventeen edges. From eight edges on a mask takes memory, and from seventeen on its ring does.
+    VertexRow {
+        mesh: (WHEEL_8, &[], 0, ZERO),
+        points: &[
+            (0, 48),
+            (1, 1),
+            (2, 1),
+            (3, 1),
+            (4, 1),
+            (5, 1),
+            (6, 1),
+            (7, 1),
+            (8, 1),
+        ],
+        faces: &[
+            (0, 1),
+            (1, 1),
+            (2, 1),
+            (3, 1),
+            (4, 1),
+            (5, 1),
+            (6, 1),
+            (7, 1),
+        ],
+        denominator: 64,
+    },
+    VertexRow {
+        mesh: (WHEEL_17, &[], 0, ZERO),
+        points: &[
+            (0, 255),
+            (1, 1),
+            (2, 1),
+            (3, 1),
+            (4, 1),
+            (5, 1),
+            (6, 1),
+            (7, 1),
+            (8, 1),
+            (9, 1),
+            (10, 1),
+            (11, 1),
+            (12, 1),
+            (13, 1),
+            (14, 1),
+            (15, 1),
+            (16, 1),
+            (17, 1),
+        ],
+        faces: &[
+            (0, 1),
+            (1, 1),
+            (2, 1),
+            (3, 1),
+            (4, 1),
+            (5, 1),
+            (6, 1),
+            (7, 1),
+            (8, 1),
+            (9, 1),
+            (10, 1),
+            (11, 1),
+            (12, 1),
+            (13, 1),
+            (14, 1),
+            (15, 1),
+            (16, 1),
+        ],
+        denominator: 289,
     },
     // At the rim and inside.
     VertexRow {
@@ -265,16 +334,6 @@ const VERTICES: &[VertexRow] = &[
     },
 ];
 
-// Weights whose denominator is too great: the sharpnesses that end are 1/2^59 and 1/3, and thrice 1/2^59.
-const REFUSED: &[Mesh] = &[
-    (CUBE, &[(1, 3, FINE), (3, 2, (1, 3))], 3, ZERO),
-    (CUBE, &[(1, 3, FINE), (3, 2, FINE)], 3, FINE),
-];
-
 pub fn vertices() -> &'static [VertexRow] {
     VERTICES
-}
-
-pub fn refused() -> &'static [Mesh] {
-    REFUSED
 }
