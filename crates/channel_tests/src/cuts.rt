@@ -50,25 +50,6 @@ fn cut_by<L: Ledger>(
     cut_level(alloc, mesh, &level, mode, &mut steps)
 }
 
-fn cut_mesh(
-    rt: &impl Abort,
-    alloc: Global,
-    mesh: &RawMesh,
-    mode: SeamMode,
-) -> Result<Channel, CheckFault> {
-    cut_by::<Brand>(rt, alloc, mesh, mode, Blank::new(1))
-}
-
-fn boundary_edges(level: &Level) -> u32 {
-    let mut count: u32 = 0;
-    for e in 0..level.edges() {
-        if level.edge_faces(e).second.is_none() {
-            count = count.saturating_add(1);
-        }
-    }
-    count
-}
-
 fn sharp_points(level: &Level) -> u32 {
     let mut count: u32 = 0;
     for v in 0..level.points() {
@@ -79,73 +60,44 @@ fn sharp_points(level: &Level) -> u32 {
     count
 }
 
-// A mesh, the rule of its seams, and the points, boundary edges, sharp points and last value of the cut mesh.
-type Cut = (&'static str, SeamMode, u32, u32, u32, Point2);
+// A mesh, the rule of its seams, and the points, sharp points and last value of the cut mesh.
+type Cut = (&'static str, SeamMode, u32, u32, Point2);
+
+const LAST: Point2 = Point2 { u: 4, v: 1 };
 
 const CUTS: &[Cut] = &[
-    (TWO_CHARTS, SeamMode::Smooth, 8, 8, 0, Point2 { u: 4, v: 1 }),
-    (
-        TWO_CHARTS,
-        SeamMode::Corners,
-        8,
-        8,
-        8,
-        Point2 { u: 4, v: 1 },
-    ),
-    (
-        TWO_CHARTS,
-        SeamMode::Boundaries,
-        8,
-        8,
-        8,
-        Point2 { u: 4, v: 1 },
-    ),
-    (ONE_CHART, SeamMode::Smooth, 6, 6, 0, Point2 { u: 4, v: 1 }),
-    (ONE_CHART, SeamMode::Corners, 6, 6, 4, Point2 { u: 4, v: 1 }),
-    (
-        ONE_CHART,
-        SeamMode::Boundaries,
-        6,
-        6,
-        6,
-        Point2 { u: 4, v: 1 },
-    ),
+    (TWO_CHARTS, SeamMode::Smooth, 8, 0, LAST),
+    (TWO_CHARTS, SeamMode::Corners, 8, 8, LAST),
+    (TWO_CHARTS, SeamMode::Boundaries, 8, 8, LAST),
+    (ONE_CHART, SeamMode::Smooth, 6, 0, LAST),
+    (ONE_CHART, SeamMode::Corners, 6, 4, LAST),
+    (ONE_CHART, SeamMode::Boundaries, 6, 6, LAST),
 ];
 
 fn cuts() -> &'static [Cut] {
     CUTS
 }
 
-// A cut mesh has the counts of the row.
-fn expect_parts(rt: &impl Abort, level: &Level, values: &[Point2], row: &Cut) {
-    let &(_, _, points, boundary, sharp, last) = row;
-    expect_same(rt, &level.points(), &points, row);
-    expect_same(rt, &boundary_edges(level), &boundary, row);
-    expect_same(rt, &sharp_points(level), &sharp, row);
-    expect_same(rt, &values.last(), &Some(&last), row);
+fn expect_channel(rt: &impl Abort, channel: &Channel, row: &Cut) {
+    let &(_, _, points, sharp, last) = row;
+    let level = channel.level();
+    let given = (level.points(), sharp_points(level), channel.points().last());
+    expect_same(rt, &given, &(points, sharp, Some(&last)), row);
 }
 
-fn expect_channel(
-    rt: &impl Abort,
-    given: Result<Channel, CheckFault>,
-    row: &Cut,
-) -> Result<(), Fail> {
-    let parts = given?.into_parts();
-    expect_parts(rt, &parts.0, &parts.1, row);
-    Ok(())
-}
-
-fn expect_cut(rt: &(impl Abort + AllocGlobal), row: &Cut) -> Result<(), Fail> {
+fn expect_cut(rt: &impl Abort, alloc: Global, row: &Cut) -> Result<(), Fail> {
     let &(text, mode, ..) = row;
     assert!(rt; text.len() < 1 << 28);
-    let mesh = read_obj(rt.alloc(), text.as_bytes(), 0)?;
-    expect_channel(rt, cut_mesh(rt, rt.alloc(), &mesh, mode), row)
+    let mesh = read_obj(alloc, text.as_bytes(), 0)?;
+    let channel = cut_by::<Brand>(rt, alloc, &mesh, mode, Blank::new(1))?;
+    expect_channel(rt, &channel, row);
+    Ok(())
 }
 
 #[test]
 fn cuts_meshes_at_seams(rt: HostRuntime) -> Result<(), Fail> {
     for row in cuts() {
-        expect_cut(&rt, row)?;
+        expect_cut(&rt, rt.alloc(), row)?;
     }
     Ok(())
 }

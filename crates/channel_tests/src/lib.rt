@@ -1,8 +1,10 @@
 //! Tests channels: refined to a depth, in sparse levels with their maps, and with textures.
 //!
-//! Rules of selection are tested too.
+//! A rule of selection is tested too.
 #![tactic(auto)]
 
+#[cfg(test)]
+mod base;
 #[cfg(test)]
 mod channels;
 #[cfg(test)]
@@ -11,8 +13,6 @@ mod cuts;
 mod expect;
 #[cfg(test)]
 mod inputs;
-#[cfg(test)]
-mod maps;
 #[cfg(test)]
 mod select_rules;
 #[cfg(test)]
