@@ -25,7 +25,7 @@ use Rattle.array_answers.proofs.AnswerLemmas.{all-can-be-put}
 one-for-each : (common : ℕ) (level : SparseValues Point3) (track : SparseTrack Point) (k : ℕ) → IsPointsLevel common level (points_part track k) → length level.values.items ≡ level.faces.point_count
 one-for-each common level track k is =
     sym (length-map level.values.items (point_of common)) ∙ length_all_zip IsSamePoint (points_of common level.values.items) (points_part track k).values is.same
-    ∙ length-map (written_points track.base track.meeting k) _ ∙ ap (λ (l : WrittenLevel). l.point_count) (sym is.faces)
+    ∙ length-map (written_points track.base track.predicate k) _ ∙ ap (λ (l : WrittenLevel). l.point_count) (sym is.faces)
 
 -- the levels of a mesh can be put
 pub sparse-of : (options : SparseOptions) (mesh : ObjMesh) (found : SparseArrays) → options.depth ≤ 10 → found.common ≡ mesh.common → ArePointsLevels options mesh found.levels.items →

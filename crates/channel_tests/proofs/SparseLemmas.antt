@@ -9,7 +9,7 @@ use Rattle.ratio128.specs.declared.point.Point3.{Point3}
 use Rattle.subdiv_model.specs.Level.{Level}
 use Rattle.subdiv_model.specs.Feature.{is_feature}
 use Rattle.subdiv_model.specs.Channel.{Channel}
-use Rattle.subdiv_model.specs.Sparse.{meeting_to}
+use Rattle.subdiv_model.specs.Sparse.{predicate_to}
 use Rattle.subdiv_model.specs.SparseTexture.{selected_to}
 use Rattle.primvar_refine.specs.Rows.{Row, row_at}
 use Rattle.channel_refine.specs.Evaluated.{control_rows}
@@ -53,8 +53,8 @@ module _ (p : Point3) (channel : Channel) (few : greatest_amount (numbers_of p) 
 pub feature-levels : (base : Channel) (controls : List Row) (depth : ℕ) (levels : List (SparseValues Point3)) → AreSparseTo is_feature base controls depth (map (sparse_rows numbers_of) levels)
     → AreFeatureLevels base.base depth levels
 feature-levels base controls depth levels are = record {
-  count = levels-count numbers_of base (meeting_to is_feature base.base depth) controls depth levels are;
-  written = levels-written numbers_of base (meeting_to is_feature base.base depth) controls depth levels are;
+  count = levels-count numbers_of base (predicate_to is_feature base.base depth) controls depth levels are;
+  written = levels-written numbers_of base (predicate_to is_feature base.base depth) controls depth levels are;
 }
 
 pub feature-result : (base : Channel) (controls : List Row) (depth : ℕ) (result : Result (Vec (SparseValues Point3) Global) WalkFault)
@@ -64,5 +64,5 @@ feature-result base controls depth (Ok levels) are = feature-levels base control
 feature-result base controls depth (Err fault) are = tt
 
 -- the faces that a level selects are a selection of the level
-pub own-selection : (base : Level) (depth : ℕ) → IsSelection base depth (selected_to base (meeting_to is_feature base depth) depth)
-own-selection base depth = cut-selection base base (record { sizes = refl; holes = refl }) (meeting_to is_feature base depth) depth
+pub own-selection : (base : Level) (depth : ℕ) → IsSelection base depth (selected_to base (predicate_to is_feature base depth) depth)
+own-selection base depth = cut-selection base base (record { sizes = refl; holes = refl }) (predicate_to is_feature base depth) depth

@@ -7,7 +7,7 @@ use Rattle.subdiv_model.specs.Base.{base_level}
 use Rattle.subdiv_model.specs.Mask.{CatmullClark}
 use Rattle.subdiv_model.specs.Feature.{is_feature}
 use Rattle.subdiv_model.specs.Channel.{Channel}
-use Rattle.subdiv_model.specs.Sparse.{meeting_to}
+use Rattle.subdiv_model.specs.Sparse.{predicate_to}
 use Rattle.channel_refine.specs.Base.{channel_of}
 use Rattle.sparse_faces.specs.declared.values.SparseValues.{SparseValues}
 use Rattle.sparse_face_varying.specs.Chosen.{AreWritten}
@@ -23,4 +23,4 @@ channel_by mesh = channel_of (base_level mesh) CatmullClark 3 1
 -- the levels up to a depth, with the features selected
 pub record AreFeatureLevels (base : Level) (depth : ℕ) (levels : List (SparseValues Point3)) : Type 0 where
   pub count : length levels ≡ depth + 1
-  pub written : AreWritten levels base (meeting_to is_feature base depth) depth
+  pub written : AreWritten levels base (predicate_to is_feature base depth) depth

@@ -2,7 +2,8 @@
 use Rattle.std.proofs.Common.{arith, refl}
 use Rattle.subdiv_model.specs.Mask.{CatmullClark}
 use Rattle.mesh_laws.proofs.WalkLemmas.{manifold-decides}
-use Rattle.mask_laws.specs.Laws.{IsManifoldMesh, HasProperTags, mesh_level}
+use Rattle.level_laws.specs.Tags.{HasProperTags}
+use Rattle.mask_laws.specs.Laws.{IsManifoldMesh, mesh_level}
 use Rattle.continued_laws.specs.Laws.{HasTagsOf, IsContinuation}
 use Rattle.continued_laws.specs.Examples.{tagged_quads, quads_after_a_step}
 

@@ -13,7 +13,8 @@ use Rattle.subdiv_model.specs.Text.{face_line, shown}
 use Rattle.sharpness_laws.proofs.ProperLemmas.{proper-well_formed, proper-edge, proper-vertex}
 use Rattle.level_laws.proofs.FaceLemmas.{faces-after}
 use Rattle.level_laws.proofs.WellFormedLemmas.{first-of-six}
-use Rattle.mask_laws.specs.Laws.{IsManifoldMesh, HasProperTags, IsManifoldWithSharpBoundary, mesh_level}
+use Rattle.level_laws.specs.Tags.{HasProperTags}
+use Rattle.mask_laws.specs.Laws.{IsManifoldMesh, IsManifoldWithSharpBoundary, mesh_level}
 use Rattle.continued_laws.specs.Laws.{AreSameValues, HasDenominator, Columns, values_over, mesh_coordinates, mesh_points, point_lines, text_after, IsContinuation}
 use Rattle.continued_laws.proofs.TagLemmas.{base-again}
 use Rattle.continued_laws.proofs.StepLemmas.{steps-on, sharp-mesh, no-fault}

@@ -12,7 +12,8 @@ use Rattle.mesh_laws.proofs.WalkLemmas.{manifold-decides}
 use Rattle.mesh_laws.proofs.Laws.{manifold-levels}
 use Rattle.level_laws.proofs.BaseLemmas.{base-well-formed}
 use Rattle.level_laws.proofs.WellFormedLemmas.{first-of-six, levels-well-formed}
-use Rattle.mask_laws.specs.Laws.{IsManifoldMesh, HasProperTags, IsManifoldWithSharpBoundary, mesh_level}
+use Rattle.level_laws.specs.Tags.{HasProperTags}
+use Rattle.mask_laws.specs.Laws.{IsManifoldMesh, IsManifoldWithSharpBoundary, mesh_level}
 use Rattle.mask_laws.proofs.BoundaryLemmas.{boundary-base}
 use Rattle.mask_laws.proofs.MeanLemmas.{child-sharp}
 

@@ -24,7 +24,7 @@ use Rattle.mesh_laws.proofs.EdgeLemmas.{first_named-once, position-alike}
 use Rattle.mesh_laws.proofs.Laws.{manifold-edges}
 use Rattle.mesh_laws.proofs.SideLemmas.{same_edge-refl}
 use Rattle.level_laws.proofs.NumberedLemmas.{numbered-at}
-use Rattle.mask_laws.specs.SharpBoundary.{is_infinite}
+use Rattle.subdiv_model.specs.Feature.{is_infinite}
 use Rattle.mask_laws.specs.Laws.{IsManifoldWithSharpBoundary}
 use Rattle.mask_laws.proofs.BoundaryLemmas.{is-infinite}
 use Rattle.continued_laws.specs.Laws.{written_creases, HasTagsOf}

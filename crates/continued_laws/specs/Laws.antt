@@ -14,7 +14,8 @@ use Rattle.subdiv_model.specs.Mask.{Scheme}
 use Rattle.subdiv_model.specs.Value.{Value, IsSameValue}
 use Rattle.subdiv_model.specs.Refined.{Point, points_of_coordinates, refined_coordinates, refined_points}
 use Rattle.subdiv_model.specs.Text.{is_written_crease, point_line, mesh_text}
-use Rattle.mask_laws.specs.Laws.{IsManifoldMesh, HasProperTags, mesh_level}
+use Rattle.level_laws.specs.Tags.{HasProperTags}
+use Rattle.mask_laws.specs.Laws.{IsManifoldMesh, mesh_level}
 
 -- Levels and meshes.
 

@@ -6,7 +6,8 @@ ghost use Rattle.subdiv_model.specs.ObjMesh.{ObjMesh, has_faces_over_points};
 ghost use Rattle.subdiv_model.specs.Level.{Level};
 ghost use Rattle.subdiv_model.specs.Base.{base_level};
 ghost use Rattle.subdiv_model.specs.Child.{refined_level};
-ghost use Rattle.mask_laws.specs.Laws.{IsManifoldMesh, HasProperTags, IsManifoldWithSharpBoundary, mesh_level};
+ghost use Rattle.level_laws.specs.Tags.{HasProperTags};
+ghost use Rattle.mask_laws.specs.Laws.{IsManifoldMesh, IsManifoldWithSharpBoundary, mesh_level};
 ghost use Rattle.continued_laws.specs.Laws.{HasTagsOf, IsFaultless};
 
 /// A mesh with the faces and tags of a level has that level as its level 0. The level is a well-formed manifold, and its boundary

@@ -6,7 +6,8 @@ ghost use Rattle.subdiv_model.specs.ObjMesh.{ObjMesh};
 ghost use Rattle.subdiv_model.specs.Child.{faces_after};
 ghost use Rattle.subdiv_model.specs.Mask.{Scheme, CatmullClark};
 ghost use Rattle.subdiv_model.specs.Text.{tags_text};
-ghost use Rattle.mask_laws.specs.Laws.{IsManifoldMesh, HasProperTags, mesh_level};
+ghost use Rattle.level_laws.specs.Tags.{HasProperTags};
+ghost use Rattle.mask_laws.specs.Laws.{IsManifoldMesh, mesh_level};
 ghost use Rattle.continued_laws.specs.Laws.{ContinuedMesh, IsContinuation, mesh_points, point_lines, text_after};
 ghost use Rattle.continued_laws.specs.Examples.{tagged_quads, quads_after_a_step};
 

@@ -17,7 +17,7 @@ use Rattle.subdiv_model.specs.Support.{entries_after}
 use Rattle.subdiv_model.specs.Cut.{SeamMode, SmoothSeams, CornerSeams, BoundarySeams, cut_level, channel_values}
 use Rattle.subdiv_model.specs.Channel.{Channel, Asked, Sharpnesses, Values, Tables, greatest_amount, greatest_denominator, channel_faults}
 use Rattle.subdiv_model.specs.Feature.{FaceFacts, is_feature, is_selectable}
-use Rattle.subdiv_model.specs.Sparse.{Meeting, meeting_to}
+use Rattle.subdiv_model.specs.Sparse.{FacePredicate, predicate_to}
 use Rattle.subdiv_model.specs.SparseFaults.{sparse_faults}
 use Rattle.subdiv_model.specs.SparseText.{sparse_text}
 use Rattle.subdiv_model.specs.SparseTexture.{SparseTrack, selected_to, textured_sparse_text}
@@ -99,36 +99,36 @@ test_of FeatureFaces = is_feature
 test_of AllFaces = is_selectable
 
 -- the predicate of the selected faces of a mesh to a depth
-abbrev pub meeting_by : Select → ℕ → ObjMesh → Meeting
-meeting_by select depth mesh = meeting_to (test_of select) (base_level mesh) depth
+abbrev pub predicate_by : Select → ℕ → ObjMesh → FacePredicate
+predicate_by select depth mesh = predicate_to (test_of select) (base_level mesh) depth
 
 -- the predicate of the selected faces, by the options of `sparse`
-abbrev pub meeting_for : SparseOptions → ObjMesh → Meeting
-meeting_for options mesh = meeting_by options.select options.depth mesh
+abbrev pub predicate_for : SparseOptions → ObjMesh → FacePredicate
+predicate_for options mesh = predicate_by options.select options.depth mesh
 
 -- the refinement of the texture of the sparse levels, if the mesh has texture and the options ask for it
 abbrev pub sparse_uv : SparseOptions → ObjMesh → Option Uv
 sparse_uv options mesh = if mesh.has_texture then options.uv else None
 
 -- the predicate of the texture: at each level the faces that are selected in the mesh
-abbrev pub texture_meeting : SparseOptions → ObjMesh → Meeting
-texture_meeting options mesh = selected_to (base_level mesh) (meeting_for options mesh) options.depth
+abbrev pub texture_predicate : SparseOptions → ObjMesh → FacePredicate
+texture_predicate options mesh = selected_to (base_level mesh) (predicate_for options mesh) options.depth
 
 -- the faults of the sparse levels of the texture, if there is one
 abbrev pub sparse_texture_faults : SparseOptions → ObjMesh → Option Uv → List Fault
 sparse_texture_faults options mesh None = []
-sparse_texture_faults options mesh (Some uv) = sparse_faults Tables (texture_of mesh uv) (texture_meeting options mesh) Texture options.depth
+sparse_texture_faults options mesh (Some uv) = sparse_faults Tables (texture_of mesh uv) (texture_predicate options mesh) Texture options.depth
 
 -- the faults of the sparse levels of the positions, then those of the texture
 abbrev pub sparse_mesh_faults : SparseOptions → ObjMesh → List Fault
 sparse_mesh_faults options mesh =
-    sparse_faults Tables (positions_of mesh) (meeting_for options mesh) Positions options.depth
+    sparse_faults Tables (positions_of mesh) (predicate_for options mesh) Positions options.depth
     ++ sparse_texture_faults options mesh (sparse_uv options mesh)
 
 -- the faults of the sparse levels in the number of their faces and in their sharpness, and of the face whose places are asked for
 abbrev pub map_mesh_faults : MapOptions → ObjMesh → List Fault
 map_mesh_faults options mesh =
-    sparse_faults Sharpnesses (positions_of mesh) (meeting_by options.select options.depth mesh) Positions options.depth
+    sparse_faults Sharpnesses (positions_of mesh) (predicate_by options.select options.depth mesh) Positions options.depth
     ++ location_faults (base_level mesh) options.face options.corner
 
 -- the faults of a table of the positions
@@ -192,23 +192,23 @@ patch_mesh_text options mesh = patch_text (base_level mesh) options.face options
 
 -- the sparse levels of the positions
 abbrev pub sparse_positions : SparseOptions → ObjMesh → SparseTrack Point
-sparse_positions options mesh = record { base = base_level mesh; meeting = meeting_for options mesh; values = points_after mesh }
+sparse_positions options mesh = record { base = base_level mesh; predicate = predicate_for options mesh; values = points_after mesh }
 
 -- the sparse levels of the texture, by a texture option
 abbrev pub sparse_texture : SparseOptions → ObjMesh → Uv → SparseTrack (Value × Value)
 sparse_texture options mesh uv =
-    record { base = cut_level (seams_of uv) mesh; meeting = texture_meeting options mesh; values = texture_after mesh uv }
+    record { base = cut_level (seams_of uv) mesh; predicate = texture_predicate options mesh; values = texture_after mesh uv }
 
 -- the text of `sparse`, with texture if there is one
 abbrev pub sparse_mesh_text : SparseOptions → ObjMesh → Option Uv → List ℕ
-sparse_mesh_text options mesh None = sparse_text options.decimals (points_after mesh) (base_level mesh) (meeting_for options mesh) options.depth
+sparse_mesh_text options mesh None = sparse_text options.decimals (points_after mesh) (base_level mesh) (predicate_for options mesh) options.depth
 sparse_mesh_text options mesh (Some uv) =
     textured_sparse_text options.decimals (sparse_positions options mesh) (sparse_texture options mesh uv) options.depth
 
 -- the leaf of each pair of the grid on a face
 abbrev pub map_leaf : MapOptions → ObjMesh → ℕ × ℕ → Location
 map_leaf options mesh pair =
-    leaf_of options.grid options.depth (base_level mesh) (meeting_by options.select options.depth mesh) (base_location options.face options.corner pair)
+    leaf_of options.grid options.depth (base_level mesh) (predicate_by options.select options.depth mesh) (base_location options.face options.corner pair)
 
 -- the text of `map`: a line for each pair of the grid
 abbrev pub map_mesh_text : MapOptions → ObjMesh → List ℕ

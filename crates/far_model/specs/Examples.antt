@@ -16,7 +16,7 @@ use Rattle.subdiv_model.specs.SparseText.{WrittenLevel, written_level}
 use Rattle.subdiv_model.specs.SparseTexture.{textured_level_line, textured_sparse_line}
 use Rattle.subdiv_model.specs.Text.{texture_line}
 use Rattle.subdiv_model.specs.Value.{whole_value}
-use Rattle.far_model.specs.Answer.{map_leaf, meeting_for, texture_after, texture_meeting}
+use Rattle.far_model.specs.Answer.{map_leaf, predicate_for, texture_after, texture_predicate}
 use Rattle.far_model.specs.Command.{FeatureFaces, Select, SmoothUv, SparseOptions, uv_of}
 use Rattle.far_model.specs.Refusal.{refused, answer_unless}
 use Rattle.far_model.specs.Stream.{LineRule}
@@ -57,19 +57,19 @@ textured_options select = record { depth = 1; select = select; decimals = None; 
 
 -- a level of the texture of a text, as it is written
 abbrev pub texture_level : Select → ObjMesh → ℕ → WrittenLevel
-texture_level select mesh k = written_level (cut_level SmoothSeams mesh) (texture_meeting (textured_options select) mesh) k
+texture_level select mesh k = written_level (cut_level SmoothSeams mesh) (texture_predicate (textured_options select) mesh) k
 
 -- the line with the counts of a level
 abbrev pub level_head : Select → List ℕ → ℕ → List ℕ
 level_head select text k =
     let mesh = read_obj_mesh text 0 in
-    textured_level_line k (written_level (base_level mesh) (meeting_for (textured_options select) mesh) k) (texture_level select mesh k)
+    textured_level_line k (written_level (base_level mesh) (predicate_for (textured_options select) mesh) k) (texture_level select mesh k)
 
 -- the lines of the faces of a level
 abbrev pub level_faces : Select → List ℕ → ℕ → List ℕ
 level_faces select text k =
     let mesh = read_obj_mesh text 0 in
-    flat_map (textured_sparse_line (texture_level select mesh k)) (written_level (base_level mesh) (meeting_for (textured_options select) mesh) k).faces
+    flat_map (textured_sparse_line (texture_level select mesh k)) (written_level (base_level mesh) (predicate_for (textured_options select) mesh) k).faces
 
 -- the line of `map` for a pair on face 0 of the cube, to a depth and on a grid
 abbrev pub cube_leaf : ℕ → ℕ → ℕ × ℕ → List ℕ

@@ -7,7 +7,7 @@ use Rattle.std.proofs.lemmas.List.Folds.{flat_map-map}
 use Rattle.std.proofs.lemmas.List.FromFn.{get_or-enumerate_from, length-enumerate_from}
 use Rattle.subdiv_model.specs.Level.{Level}
 use Rattle.subdiv_model.specs.Refined.{Point}
-use Rattle.subdiv_model.specs.Sparse.{Meeting}
+use Rattle.subdiv_model.specs.Sparse.{FacePredicate}
 use Rattle.subdiv_model.specs.NumberText.{number_text}
 use Rattle.subdiv_model.specs.Text.{point_line}
 use Rattle.subdiv_model.specs.SparseText.{LeafFace, WrittenFace, WrittenLevel, written_level, written_points, points_with, kind_text, sparse_face_line, sparse_level_line, sparse_level_text, sparse_text}
@@ -88,12 +88,12 @@ lines-over decimals level first (suc count) =
     ap (λ rest. sparse_level_text decimals first (level first).written (level first).points ++ rest) (lines-over decimals level (first + 1) count)
 
 -- a level of the definitions with its points
-abbrev pub defined_level : (ℕ → List Point) → Level → Meeting → ℕ → PointedLevel
-defined_level points base meeting j = pointed (written_level base meeting j) (points_with (points j) (written_points base meeting j))
+abbrev pub defined_level : (ℕ → List Point) → Level → FacePredicate → ℕ → PointedLevel
+defined_level points base predicate j = pointed (written_level base predicate j) (points_with (points j) (written_points base predicate j))
 
-pub sparse-text : (decimals : Option ℕ) (points : ℕ → List Point) (base : Level) (meeting : Meeting) (depth : ℕ)
-    → sparse_lines decimals 0 (map (defined_level points base meeting) (range_with_len 0 (depth + 1))) ≡ sparse_text decimals points base meeting depth
-sparse-text decimals points base meeting depth = lines-over decimals (defined_level points base meeting) 0 (depth + 1)
+pub sparse-text : (decimals : Option ℕ) (points : ℕ → List Point) (base : Level) (predicate : FacePredicate) (depth : ℕ)
+    → sparse_lines decimals 0 (map (defined_level points base predicate) (range_with_len 0 (depth + 1))) ≡ sparse_text decimals points base predicate depth
+sparse-text decimals points base predicate depth = lines-over decimals (defined_level points base predicate) 0 (depth + 1)
 
 -- Levels whose points are the same, in any terms, have one text.
 
@@ -118,9 +118,9 @@ lines-same decimals first (x ∷ xs) (y ∷ ys) same =
     ∙ ap (λ t. numbered_level decimals (first, y) ++ t) (lines-same decimals (first + 1) xs ys same.1)
 
 -- if each level is that of the definitions with its points in other terms, the text is the definition's
-pub sparse-text-same : (mesh : SparseMesh) (points : ℕ → List Point) (base : Level) (meeting : Meeting) (depth : ℕ)
-    → AllZip AreSameLevels (map (level_over mesh.common) mesh.levels.items) (map (defined_level points base meeting) (range_with_len 0 (depth + 1)))
-    → sparse_mesh_text mesh ≡ sparse_text mesh.decimals points base meeting depth
-sparse-text-same mesh points base meeting depth same =
-    lines-same mesh.decimals 0 (map (level_over mesh.common) mesh.levels.items) (map (defined_level points base meeting) (range_with_len 0 (depth + 1))) same
-    ∙ sparse-text mesh.decimals points base meeting depth
+pub sparse-text-same : (mesh : SparseMesh) (points : ℕ → List Point) (base : Level) (predicate : FacePredicate) (depth : ℕ)
+    → AllZip AreSameLevels (map (level_over mesh.common) mesh.levels.items) (map (defined_level points base predicate) (range_with_len 0 (depth + 1)))
+    → sparse_mesh_text mesh ≡ sparse_text mesh.decimals points base predicate depth
+sparse-text-same mesh points base predicate depth same =
+    lines-same mesh.decimals 0 (map (level_over mesh.common) mesh.levels.items) (map (defined_level points base predicate) (range_with_len 0 (depth + 1))) same
+    ∙ sparse-text mesh.decimals points base predicate depth

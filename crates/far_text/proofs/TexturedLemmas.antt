@@ -161,7 +161,7 @@ level-text-same decimals k a b s t is texture_is same texture_same =
 module _ (decimals : Option ℕ) (common over : ℕ) (points : SparseTrack Point) (texture : SparseTrack (Value × Value)) where
   -- the text of the level with a number
   part-same : (k : ℕ) (level : SparseValues Point3) (texture_level : SparseValues Point2)
-      → AreSameLevels (level_over common level) (defined_level points.values points.base points.meeting k)
+      → AreSameLevels (level_over common level) (defined_level points.values points.base points.predicate k)
       → AreSameTextures (texture_part_over over texture_level) (texture_part texture k)
       → textured_level_text decimals k (points_part_over common level) (texture_part_over over texture_level) ≡ textured_level_text decimals k (points_part points k) (texture_part texture k)
   part-same k level texture_level same texture_same =
@@ -173,7 +173,7 @@ module _ (decimals : Option ℕ) (common over : ℕ) (points : SparseTrack Point
       (recursion_from_All HasTextureDenominators (texture_part texture k).values texture_same.below) texture_same.same)
 
   lines-same : (first count : ℕ) (levels : List (SparseValues Point3)) (textures : List (SparseValues Point2))
-      → AllZip AreSameLevels (map (level_over common) levels) (map (defined_level points.values points.base points.meeting) (range_with_len first count))
+      → AllZip AreSameLevels (map (level_over common) levels) (map (defined_level points.values points.base points.predicate) (range_with_len first count))
       → AllZip AreSameTextures (map (texture_part_over over) textures) (map (texture_part texture) (range_with_len first count))
       → flat_map (numbered_parts decimals) (enumerate_from first (zip (map (points_part_over common) levels) (map (texture_part_over over) textures)))
       ≡ flat_map (λ k. textured_level_text decimals k (points_part points k) (texture_part texture k)) (range_with_len first count)
@@ -189,7 +189,7 @@ module _ (decimals : Option ℕ) (common over : ℕ) (points : SparseTrack Point
 
 -- if each level is that of the definitions with its points and texture points in other terms, the text is the definition's
 pub textured-sparse-text-same : (sparse : TexturedSparse) (points : SparseTrack Point) (texture : SparseTrack (Value × Value)) (depth : ℕ)
-    → AllZip AreSameLevels (map (level_over sparse.mesh.common) sparse.mesh.levels.items) (map (defined_level points.values points.base points.meeting) (range_with_len 0 (depth + 1)))
+    → AllZip AreSameLevels (map (level_over sparse.mesh.common) sparse.mesh.levels.items) (map (defined_level points.values points.base points.predicate) (range_with_len 0 (depth + 1)))
     → AllZip AreSameTextures (map (texture_part_over sparse.texture.common) sparse.texture.levels.items) (map (texture_part texture) (range_with_len 0 (depth + 1)))
     → textured_text sparse ≡ textured_sparse_text sparse.mesh.decimals points texture depth
 textured-sparse-text-same sparse points texture depth same texture_same =

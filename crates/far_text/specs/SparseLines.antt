@@ -3,7 +3,7 @@ use Rattle.std.specs.Prelude.{ℕ, ◌+◌, ◌≤◌, List, map, Option, IfSome
 use Rattle.std.specs.List.{All, flat_map, enumerate_from, range_with_len}
 use Rattle.subdiv_model.specs.Level.{Level}
 use Rattle.subdiv_model.specs.Refined.{Point}
-use Rattle.subdiv_model.specs.Sparse.{Meeting}
+use Rattle.subdiv_model.specs.Sparse.{FacePredicate}
 use Rattle.subdiv_model.specs.SparseText.{WrittenLevel, points_with, sparse_level_text, written_level, written_points}
 use Rattle.ratio128.specs.declared.point.Point3.{Point3}
 use Rattle.sparse_faces.specs.declared.values.SparseValues.{SparseValues}
@@ -20,9 +20,9 @@ abbrev pub pointed : WrittenLevel → List Point → PointedLevel
 pointed written points = record { written = written; points = points }
 
 -- the written part of each level up to a depth, with its points
-abbrev pub pointed_levels : (ℕ → List Point) → Level → Meeting → ℕ → List PointedLevel
-pointed_levels points base meeting depth =
-    map (λ j. pointed (written_level base meeting j) (points_with (points j) (written_points base meeting j))) (range_with_len 0 (depth + 1))
+abbrev pub pointed_levels : (ℕ → List Point) → Level → FacePredicate → ℕ → List PointedLevel
+pointed_levels points base predicate depth =
+    map (λ j. pointed (written_level base predicate j) (points_with (points j) (written_points base predicate j))) (range_with_len 0 (depth + 1))
 
 -- the lines of a numbered sparse level
 abbrev pub numbered_level : Option ℕ → ℕ × PointedLevel → List ℕ

@@ -8,7 +8,7 @@ ghost use Rattle.subdiv_model.specs.Level.{Level};
 ghost use Rattle.subdiv_model.specs.Child.{refined_level};
 ghost use Rattle.subdiv_model.specs.LevelText.{level_line, levels_text};
 ghost use Rattle.subdiv_model.specs.Refined.{Point};
-ghost use Rattle.subdiv_model.specs.Sparse.{Meeting};
+ghost use Rattle.subdiv_model.specs.Sparse.{FacePredicate};
 ghost use Rattle.subdiv_model.specs.SparseText.{sparse_text};
 ghost use Rattle.level_counts.specs.Counts.{counts_of};
 ghost use Rattle.far_text.specs.Levels.{counts_line, levels_lines};
@@ -26,6 +26,6 @@ pub fn lines_of_the_levels()
 
 /// The lines of the sparse levels up to a depth follow from the written part of each level and its points.
 pub fn lines_of_sparse_levels()
-    ensures { (decimals : Option ℕ) (points : ℕ → List Point) (base : Level) (meeting : Meeting) (depth : ℕ)
-        → sparse_text decimals points base meeting depth ≡ sparse_lines decimals 0 (pointed_levels points base meeting depth) }
+    ensures { (decimals : Option ℕ) (points : ℕ → List Point) (base : Level) (predicate : FacePredicate) (depth : ℕ)
+        → sparse_text decimals points base predicate depth ≡ sparse_lines decimals 0 (pointed_levels points base predicate depth) }
 {}

@@ -6,7 +6,7 @@ use Rattle.std.proofs.lemmas.Bool.Decides.{nat_tests}
 use Rattle.subdiv_model.specs.Polygons.{is_among}
 use Rattle.subdiv_model.specs.Level.{Level}
 use Rattle.subdiv_model.specs.Child.{refined_level}
-use Rattle.subdiv_model.specs.Sparse.{Meeting, selected}
+use Rattle.subdiv_model.specs.Sparse.{FacePredicate, selected}
 use Rattle.subdiv_model.specs.Leaf.{Location, has_pair, is_quad_at, corners_with, pair_at, child_at, leaf_of}
 use Rattle.leaf_laws.specs.FirstLeaf.{IsInGrid, first_corner, first_leaf}
 use Rattle.leaf_laws.specs.Paths.{IsLeafOn, IsLeastLeaf, is_not_after, is_on_border}
@@ -79,44 +79,44 @@ module _ (grid : ℕ) (level : Level) (at : Location) (is : IsInGrid grid at) (c
       go false e = rw e on
 
 -- a path leads to one leaf at most
-pub one-leaf : (grid further : ℕ) (base : Level) (meeting : Meeting) (at leaf other : Location) (path : List ℕ) → IsLeafOn grid further base meeting at path leaf → IsLeafOn grid further base meeting at path other → leaf ≡ other
-one-leaf grid zero base meeting at leaf other [] one two = one ∙ sym two
-one-leaf grid zero base meeting at leaf other (c ∷ path) one two = absurd one
-one-leaf grid (suc further) base meeting at leaf other [] one two = one.1 ∙ sym two.1
-one-leaf grid (suc further) base meeting at leaf other (c ∷ path) one two = one-leaf grid further base meeting (child_at grid (refined_level base at.level) at c) leaf other path one.2 two.2
+pub one-leaf : (grid further : ℕ) (base : Level) (predicate : FacePredicate) (at leaf other : Location) (path : List ℕ) → IsLeafOn grid further base predicate at path leaf → IsLeafOn grid further base predicate at path other → leaf ≡ other
+one-leaf grid zero base predicate at leaf other [] one two = one ∙ sym two
+one-leaf grid zero base predicate at leaf other (c ∷ path) one two = absurd one
+one-leaf grid (suc further) base predicate at leaf other [] one two = one.1 ∙ sym two.1
+one-leaf grid (suc further) base predicate at leaf other (c ∷ path) one two = one-leaf grid further base predicate (child_at grid (refined_level base at.level) at c) leaf other path one.2 two.2
 
 -- the leaf that is found has the least path
-pub first-least : (grid further : ℕ) (base : Level) (meeting : Meeting) (at : Location) → IsInGrid grid at → IsLeastLeaf grid further base meeting at (first_leaf grid further base meeting at)
-first-least grid zero base meeting at is = record { path = []; leads = refl; least = λ other another h. refl }
-first-least grid (suc further) base meeting at is =
+pub first-least : (grid further : ℕ) (base : Level) (predicate : FacePredicate) (at : Location) → IsInGrid grid at → IsLeastLeaf grid further base predicate at (first_leaf grid further base predicate at)
+first-least grid zero base predicate at is = record { path = []; leads = refl; least = λ other another h. refl }
+first-least grid (suc further) base predicate at is =
     let level = refined_level base at.level in
     let first = corner-first grid level at is in
-    go (is_among (selected base meeting at.level) at.number) refl (first-least grid further base meeting (child_at grid level at (first_corner grid level at)) first.inside)
+    go (is_among (selected base predicate at.level) at.number) refl (first-least grid further base predicate (child_at grid level at (first_corner grid level at)) first.inside)
   where
     among : is_among (corners_with grid (refined_level base at.level) at) (first_corner grid (refined_level base at.level) at) ≡ true
     among = let here : nat_eq (first_corner grid (refined_level base at.level) at) (first_corner grid (refined_level base at.level) at) ≡ true = grind (arith, nat_tests) in ap (λ cs. is_among cs (first_corner grid (refined_level base at.level) at)) (corner-first grid (refined_level base at.level) at is).begin ∙ rw here refl
 
-    go : (b : Bool) → is_among (selected base meeting at.level) at.number ≡ b → IsLeastLeaf grid further base meeting (child_at grid (refined_level base at.level) at (first_corner grid (refined_level base at.level) at)) (first_leaf grid further base meeting (child_at grid (refined_level base at.level) at (first_corner grid (refined_level base at.level) at)))
-        → IsLeastLeaf grid (suc further) base meeting at (first_leaf grid (suc further) base meeting at)
+    go : (b : Bool) → is_among (selected base predicate at.level) at.number ≡ b → IsLeastLeaf grid further base predicate (child_at grid (refined_level base at.level) at (first_corner grid (refined_level base at.level) at)) (first_leaf grid further base predicate (child_at grid (refined_level base at.level) at (first_corner grid (refined_level base at.level) at)))
+        → IsLeastLeaf grid (suc further) base predicate at (first_leaf grid (suc further) base predicate at)
     go false e behind =
-        let found : first_leaf grid (suc further) base meeting at ≡ at = rw e refl in
+        let found : first_leaf grid (suc further) base predicate at ≡ at = rw e refl in
         record { path = []; leads = (e, found); least = λ other another h. refl }
     go true e behind =
-        let found : first_leaf grid (suc further) base meeting at ≡ first_leaf grid further base meeting (child_at grid (refined_level base at.level) at (first_corner grid (refined_level base at.level) at)) = rw e refl in
+        let found : first_leaf grid (suc further) base predicate at ≡ first_leaf grid further base predicate (child_at grid (refined_level base at.level) at (first_corner grid (refined_level base at.level) at)) = rw e refl in
         record {
           path = (first_corner grid (refined_level base at.level) at) ∷ behind.path;
-          leads = (e, among, subst (IsLeafOn grid further base meeting (child_at grid (refined_level base at.level) at (first_corner grid (refined_level base at.level) at)) behind.path) (sym found) behind.leads);
+          leads = (e, among, subst (IsLeafOn grid further base predicate (child_at grid (refined_level base at.level) at (first_corner grid (refined_level base at.level) at)) behind.path) (sym found) behind.leads);
           least = λ other another h. compare other another h;
         }
       where
-        compare : (other : List ℕ) (another : Location) → IsLeafOn grid (suc further) base meeting at other another → is_not_after ((first_corner grid (refined_level base at.level) at) ∷ behind.path) other ≡ true
+        compare : (other : List ℕ) (another : Location) → IsLeafOn grid (suc further) base predicate at other another → is_not_after ((first_corner grid (refined_level base at.level) at) ∷ behind.path) other ≡ true
         compare [] another h = let no = h.0 in absurd (cc)
         compare (d ∷ other) another h = order (nat_eq (first_corner grid (refined_level base at.level) at) d) refl
           where
             order : (b : Bool) → nat_eq (first_corner grid (refined_level base at.level) at) d ≡ b → is_not_after ((first_corner grid (refined_level base at.level) at) ∷ behind.path) (d ∷ other) ≡ true
             order true f =
                 let same = eqb-true (first_corner grid (refined_level base at.level) at) d f in
-                let rest = behind.least other another (subst (λ k. IsLeafOn grid further base meeting (child_at grid (refined_level base at.level) at k) other another) (sym same) h.2) in
+                let rest = behind.least other another (subst (λ k. IsLeafOn grid further base predicate (child_at grid (refined_level base at.level) at k) other another) (sym same) h.2) in
                 let none : nat_lt (first_corner grid (refined_level base at.level) at) d ≡ false = grind (arith, nat_tests) in
                 rw (none, f) rest
             order false f =
@@ -124,41 +124,41 @@ first-least grid (suc further) base meeting at is =
                 let less : nat_lt (first_corner grid (refined_level base at.level) at) d ≡ true = grind (arith, nat_tests) in
                 rw less refl
 
-pub leaf-least : (grid depth : ℕ) (base : Level) (meeting : Meeting) (at : Location) → IsInGrid grid at → IsLeastLeaf grid depth base meeting at (leaf_of grid depth base meeting at)
-leaf-least grid depth base meeting at is = subst (IsLeastLeaf grid depth base meeting at) (sym (leaf-first grid depth base meeting at is)) (first-least grid depth base meeting at is)
+pub leaf-least : (grid depth : ℕ) (base : Level) (predicate : FacePredicate) (at : Location) → IsInGrid grid at → IsLeastLeaf grid depth base predicate at (leaf_of grid depth base predicate at)
+leaf-least grid depth base predicate at is = subst (IsLeastLeaf grid depth base predicate at) (sym (leaf-first grid depth base predicate at is)) (first-least grid depth base predicate at is)
 
 -- a location on the border of a face is on the border of its leaf
-pub border-leaf : (grid further : ℕ) (base : Level) (meeting : Meeting) (at leaf : Location) (path : List ℕ) → IsInGrid grid at → IsLeafOn grid further base meeting at path leaf
+pub border-leaf : (grid further : ℕ) (base : Level) (predicate : FacePredicate) (at leaf : Location) (path : List ℕ) → IsInGrid grid at → IsLeafOn grid further base predicate at path leaf
     → is_on_border grid (at.s, at.t) ≡ true → is_on_border grid (leaf.s, leaf.t) ≡ true
-border-leaf grid zero base meeting at leaf [] is one on = ap (λ (l : Location). is_on_border grid (l.s, l.t)) one ∙ on
-border-leaf grid zero base meeting at leaf (c ∷ path) is one on = absurd one
-border-leaf grid (suc further) base meeting at leaf [] is one on = ap (λ (l : Location). is_on_border grid (l.s, l.t)) one.1 ∙ on
-border-leaf grid (suc further) base meeting at leaf (c ∷ path) is one on =
+border-leaf grid zero base predicate at leaf [] is one on = ap (λ (l : Location). is_on_border grid (l.s, l.t)) one ∙ on
+border-leaf grid zero base predicate at leaf (c ∷ path) is one on = absurd one
+border-leaf grid (suc further) base predicate at leaf [] is one on = ap (λ (l : Location). is_on_border grid (l.s, l.t)) one.1 ∙ on
+border-leaf grid (suc further) base predicate at leaf (c ∷ path) is one on =
     let level = refined_level base at.level in
-    border-leaf grid further base meeting (child_at grid level at c) leaf path (child-inside grid level at is c one.1) one.2 (border-at grid level at is c one.1 on)
+    border-leaf grid further base predicate (child_at grid level at c) leaf path (child-inside grid level at is c one.1) one.2 (border-at grid level at is c one.1 on)
 
 -- two leaves share only their borders
-pub leaves-share : (grid further : ℕ) (base : Level) (meeting : Meeting) (at leaf other : Location) (path other_path : List ℕ) → IsInGrid grid at → path ≢ other_path
-    → IsLeafOn grid further base meeting at path leaf → IsLeafOn grid further base meeting at other_path other
+pub leaves-share : (grid further : ℕ) (base : Level) (predicate : FacePredicate) (at leaf other : Location) (path other_path : List ℕ) → IsInGrid grid at → path ≢ other_path
+    → IsLeafOn grid further base predicate at path leaf → IsLeafOn grid further base predicate at other_path other
     → (is_on_border grid (leaf.s, leaf.t) ≡ true) × (is_on_border grid (other.s, other.t) ≡ true)
-leaves-share grid zero base meeting at leaf other [] [] is apart one two = absurd (apart refl)
-leaves-share grid zero base meeting at leaf other [] (d ∷ other_path) is apart one two = absurd two
-leaves-share grid zero base meeting at leaf other (c ∷ path) other_path is apart one two = absurd one
-leaves-share grid (suc further) base meeting at leaf other [] [] is apart one two = absurd (apart refl)
-leaves-share grid (suc further) base meeting at leaf other [] (d ∷ other_path) is apart one two = let no = one.0 in let yes = two.0 in absurd (cc)
-leaves-share grid (suc further) base meeting at leaf other (c ∷ path) [] is apart one two = let yes = one.0 in let no = two.0 in absurd (cc)
-leaves-share grid (suc further) base meeting at leaf other (c ∷ path) (d ∷ other_path) is apart one two =
+leaves-share grid zero base predicate at leaf other [] [] is apart one two = absurd (apart refl)
+leaves-share grid zero base predicate at leaf other [] (d ∷ other_path) is apart one two = absurd two
+leaves-share grid zero base predicate at leaf other (c ∷ path) other_path is apart one two = absurd one
+leaves-share grid (suc further) base predicate at leaf other [] [] is apart one two = absurd (apart refl)
+leaves-share grid (suc further) base predicate at leaf other [] (d ∷ other_path) is apart one two = let no = one.0 in let yes = two.0 in absurd (cc)
+leaves-share grid (suc further) base predicate at leaf other (c ∷ path) [] is apart one two = let yes = one.0 in let no = two.0 in absurd (cc)
+leaves-share grid (suc further) base predicate at leaf other (c ∷ path) (d ∷ other_path) is apart one two =
     go (nat_eq c d) refl (λ same. let level = refined_level base at.level in
-    leaves-share grid further base meeting (child_at grid level at c) leaf other path other_path (child-inside grid level at is c one.1)
+    leaves-share grid further base predicate (child_at grid level at c) leaf other path other_path (child-inside grid level at is c one.1)
     (λ e. apart (ap (λ (n : ℕ). n ∷ path) same ∙ ap (λ (l : List ℕ). d ∷ l) e)) one.2
-    (subst (λ k. IsLeafOn grid further base meeting (child_at grid level at k) other_path other) (sym same) two.2))
+    (subst (λ k. IsLeafOn grid further base predicate (child_at grid level at k) other_path other) (sym same) two.2))
   where
     go : (b : Bool) → nat_eq c d ≡ b → (c ≡ d → (is_on_border grid (leaf.s, leaf.t) ≡ true) × (is_on_border grid (other.s, other.t) ≡ true))
         → (is_on_border grid (leaf.s, leaf.t) ≡ true) × (is_on_border grid (other.s, other.t) ≡ true)
     go true e rest = rest (eqb-true c d e)
     go false e rest = (
-      border-leaf grid further base meeting (child_at grid (refined_level base at.level) at c) leaf path (child-inside grid (refined_level base at.level) at is c one.1) one.2 (both-on_border (is_quad_at (refined_level base at.level) at) refl).0,
-      border-leaf grid further base meeting (child_at grid (refined_level base at.level) at d) other other_path (child-inside grid (refined_level base at.level) at is d two.1) two.2 (both-on_border (is_quad_at (refined_level base at.level) at) refl).1,
+      border-leaf grid further base predicate (child_at grid (refined_level base at.level) at c) leaf path (child-inside grid (refined_level base at.level) at is c one.1) one.2 (both-on_border (is_quad_at (refined_level base at.level) at) refl).0,
+      border-leaf grid further base predicate (child_at grid (refined_level base at.level) at d) other other_path (child-inside grid (refined_level base at.level) at is d two.1) two.2 (both-on_border (is_quad_at (refined_level base at.level) at) refl).1,
     )
       where
         differ : c ≢ d

@@ -4,7 +4,7 @@ use Rattle.std.specs.List.{filter, range_with_len}
 use Rattle.subdiv_model.specs.Polygons.{is_among}
 use Rattle.subdiv_model.specs.Level.{Level}
 use Rattle.subdiv_model.specs.Child.{refined_level}
-use Rattle.subdiv_model.specs.Sparse.{Meeting, selected}
+use Rattle.subdiv_model.specs.Sparse.{FacePredicate, selected}
 use Rattle.subdiv_model.specs.Leaf.{Location, in_quad, has_pair, is_quad_at, child_at}
 
 -- the pair of the location lies on the grid
@@ -28,9 +28,9 @@ abbrev pub first_corner : ℕ → Level → Location → ℕ
 first_corner grid level at = if is_quad_at level at then first_with grid (at.s, at.t) else at.corner
 
 -- the leaf found by going from a selected face to the child face of its least corner with the location
-abbrev pub first_leaf : ℕ → ℕ → Level → Meeting → Location → Location
-first_leaf grid zero base meeting at = at
-first_leaf grid (suc further) base meeting at =
-    if is_among (selected base meeting at.level) at.number
-    then first_leaf grid further base meeting (child_at grid (refined_level base at.level) at (first_corner grid (refined_level base at.level) at))
+abbrev pub first_leaf : ℕ → ℕ → Level → FacePredicate → Location → Location
+first_leaf grid zero base predicate at = at
+first_leaf grid (suc further) base predicate at =
+    if is_among (selected base predicate at.level) at.number
+    then first_leaf grid further base predicate (child_at grid (refined_level base at.level) at (first_corner grid (refined_level base at.level) at))
     else at

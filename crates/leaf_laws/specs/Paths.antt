@@ -3,28 +3,28 @@ use Rattle.std.specs.Prelude.{ℕ, zero, suc, ◌≡◌, Bool, true, false, ◌&
 use Rattle.subdiv_model.specs.Polygons.{is_among}
 use Rattle.subdiv_model.specs.Level.{Level}
 use Rattle.subdiv_model.specs.Child.{refined_level}
-use Rattle.subdiv_model.specs.Sparse.{Meeting, selected}
+use Rattle.subdiv_model.specs.Sparse.{FacePredicate, selected}
 use Rattle.subdiv_model.specs.Leaf.{Location, corners_with, child_at}
 
 -- The path leads from a location to the leaf in at most `further` levels. At each corner of the path the face is selected and the
 -- child of the corner contains the location. At its end the face is not selected or no level is left.
-abbrev pub IsLeafOn : ℕ → ℕ → Level → Meeting → Location → List ℕ → Location → Type 0
-IsLeafOn grid zero base meeting at [] leaf = leaf ≡ at
-IsLeafOn grid zero base meeting at (c ∷ path) leaf = ⊥
-IsLeafOn grid (suc further) base meeting at [] leaf = (is_among (selected base meeting at.level) at.number ≡ false) × (leaf ≡ at)
-IsLeafOn grid (suc further) base meeting at (c ∷ path) leaf =
-    (is_among (selected base meeting at.level) at.number ≡ true)
+abbrev pub IsLeafOn : ℕ → ℕ → Level → FacePredicate → Location → List ℕ → Location → Type 0
+IsLeafOn grid zero base predicate at [] leaf = leaf ≡ at
+IsLeafOn grid zero base predicate at (c ∷ path) leaf = ⊥
+IsLeafOn grid (suc further) base predicate at [] leaf = (is_among (selected base predicate at.level) at.number ≡ false) × (leaf ≡ at)
+IsLeafOn grid (suc further) base predicate at (c ∷ path) leaf =
+    (is_among (selected base predicate at.level) at.number ≡ true)
     × (is_among (corners_with grid (refined_level base at.level) at) c ≡ true)
-    × IsLeafOn grid further base meeting (child_at grid (refined_level base at.level) at c) path leaf
+    × IsLeafOn grid further base predicate (child_at grid (refined_level base at.level) at c) path leaf
 
 -- two leaves that a location has, each with a path that leads to it
-pub record TwoLeaves (grid further : ℕ) (base : Level) (meeting : Meeting) (at : Location) : Type 0 where
+pub record TwoLeaves (grid further : ℕ) (base : Level) (predicate : FacePredicate) (at : Location) : Type 0 where
   pub path : List ℕ
   pub leaf : Location
-  pub leads : IsLeafOn grid further base meeting at path leaf
+  pub leads : IsLeafOn grid further base predicate at path leaf
   pub other_path : List ℕ
   pub other : Location
-  pub other_leads : IsLeafOn grid further base meeting at other_path other
+  pub other_leads : IsLeafOn grid further base predicate at other_path other
 
 -- the first path is not greater than the second, compared corner by corner from the location
 abbrev pub is_not_after : List ℕ → List ℕ → Bool
@@ -33,10 +33,10 @@ is_not_after (c ∷ path) [] = false
 is_not_after (c ∷ path) (d ∷ other) = nat_lt c d || nat_eq c d && is_not_after path other
 
 -- the path leads to the leaf, and no path to a leaf of the location is less
-pub record IsLeastLeaf (grid further : ℕ) (base : Level) (meeting : Meeting) (at : Location) (leaf : Location) : Type 0 where
+pub record IsLeastLeaf (grid further : ℕ) (base : Level) (predicate : FacePredicate) (at : Location) (leaf : Location) : Type 0 where
   pub path : List ℕ
-  pub leads : IsLeafOn grid further base meeting at path leaf
-  pub least : (other : List ℕ) (another : Location) → IsLeafOn grid further base meeting at other another → is_not_after path other ≡ true
+  pub leads : IsLeafOn grid further base predicate at path leaf
+  pub least : (other : List ℕ) (another : Location) → IsLeafOn grid further base predicate at other another → is_not_after path other ≡ true
 
 -- the pair is on the border of its face
 abbrev pub is_on_border : ℕ → ℕ × ℕ → Bool
@@ -47,5 +47,5 @@ abbrev pub IsOnBorder : ℕ → Location → Type 0
 IsOnBorder grid at = is_on_border grid (at.s, at.t) ≡ true
 
 -- both leaves have the location on their border
-abbrev pub ShareBorders : {grid further : ℕ} {base : Level} {meeting : Meeting} {at : Location} → TwoLeaves grid further base meeting at → Type 0
+abbrev pub ShareBorders : {grid further : ℕ} {base : Level} {predicate : FacePredicate} {at : Location} → TwoLeaves grid further base predicate at → Type 0
 ShareBorders {grid} two = IsOnBorder grid two.leaf × IsOnBorder grid two.other

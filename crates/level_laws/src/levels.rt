@@ -18,7 +18,8 @@ pub fn base_levels_are_well_formed()
         → IsTrue (is_well_formed (base_level mesh)) }
 {}
 
-/// Level 0 of a closed mesh without creases, corner tags and holes is plain: it has no mark and no sharpness.
+/// Level 0 of a closed mesh of the normal method without creases, corner tags and holes is plain: it has no mark and no
+/// sharpness.
 pub fn base_of_an_untagged_closed_mesh_is_plain()
     ensures { (mesh : ObjMesh) → IsUntagged mesh → IsTrue (is_closed mesh.faces)
         → base_level mesh ≡ plain_level (length mesh.points) mesh.faces }

@@ -31,7 +31,6 @@ use Rattle.limit_laws.proofs.FaceStarLemmas.{is_plain_quad, faces-by-edges, corn
 use Rattle.limit_laws.proofs.EdgeStarLemmas.{kept-both}
 use Rattle.limit_laws.proofs.RingRuleLemmas.{IsPlain}
 use Rattle.limit_laws.proofs.StarRecords.{IsSmoothStar}
-use Rattle.mask_laws.specs.SharpBoundary.{is_infinite as is_infinite_edge}
 use Rattle.std.proofs.Math.IntN.{zero-*ℤ}
 use Rattle.number_laws.proofs.WholeNumberLemmas.{pos-sum}
 
@@ -148,7 +147,7 @@ module _ (level : Level) (is : IsSharpAtBoundary level) (quads : has_quads level
     not-boundary e smooth =
         false_from_ne_true (is_boundary level.polygons e) (λ on_boundary.
         let sharp = sharp-at level is.simple is.sharp e on_boundary in
-        false≢true (ap is_infinite_edge (sym (smooth-is (edge_sharpness_of level e) smooth)) ∙ sharp))
+        false≢true (ap is_infinite (sym (smooth-is (edge_sharpness_of level e) smooth)) ∙ sharp))
 
     away : is_at_boundary level.polygons v ≡ false
     away =

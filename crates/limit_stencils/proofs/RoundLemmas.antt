@@ -7,14 +7,12 @@ use Rattle.std.proofs.lemmas.List.{length-map}
 use Rattle.subdiv_model.specs.Polygons.{polygon_at}
 use Rattle.subdiv_model.specs.Edges.{edges_of, has_end, is_boundary}
 use Rattle.subdiv_model.specs.Base.{is_at_boundary}
-use Rattle.subdiv_model.specs.Sharpness.{Sharpness, Smooth, Semi, Infinite}
+use Rattle.subdiv_model.specs.Sharpness.{Smooth}
 use Rattle.subdiv_model.specs.Level.{Level, edge_sharpness_of, vertex_sharpness_of, edges_at, faces_at, ring_at}
 use Rattle.subdiv_model.specs.Feature.{is_infinite}
 use Rattle.subdiv_model.specs.Limit.{opposite_corner}
-use Rattle.number_laws.proofs.CountLemmas.{all-weaker}
 use Rattle.number_laws.proofs.ListLemmas.{any-both}
 use Rattle.sharpness_laws.proofs.OrderLemmas.{count-any_order}
-use Rattle.mask_laws.specs.SharpBoundary as laws
 use Rattle.mask_laws.specs.SharpBoundary.{has_sharp_boundary}
 use Rattle.mask_laws.proofs.BoundaryRuleLemmas.{interior-away}
 use Rattle.level_topology.specs.Topology.{Topology, IsTopology}
@@ -24,11 +22,6 @@ use Rattle.mask_rules.proofs.AroundLemmas.{ring-permuted}
 use Rattle.limit_stencils.specs.declared.lasting.LastingRule.TheVariants.{Smooth as SmoothRule, Corner}
 use Rattle.limit_stencils.specs.AtVertex.{opposites_in, lasting_ends, rule_of_ends, rule_in}
 use Rattle.limit_stencils.proofs.OrderLemmas.{any-permuted}
-
-alike : (s : Sharpness) → laws.is_infinite s ≡ is_infinite s
-alike Smooth = refl
-alike (Semi num den) = refl
-alike Infinite = refl
 
 -- if all edges of one face are sharp, one that ends at a point is a sharp edge there
 any-sharp : {X : Type 0} (single end sharp : X → Bool) (xs : List X) → list_all (λ x. not (single x) || sharp x) xs ≡ true
@@ -84,10 +77,7 @@ module _ (t : Topology) (v : ℕ) (is : IsTopology t) (inside : v < t.level.poin
   sharp-there boundary at =
       let edges = edges_of level.polygons in
       let test : ℕ × ℕ → Bool = λ edge. is_infinite (edge_sharpness_of level edge) in
-      let all : list_all (λ edge. not (is_boundary level.polygons edge) || test edge) edges ≡ true =
-      all-weaker (λ edge. not (is_boundary level.polygons edge) || laws.is_infinite (edge_sharpness_of level edge))
-      (λ edge. not (is_boundary level.polygons edge) || test edge)
-      (λ edge h. sym (ap (λ b. not (is_boundary level.polygons edge) || b) (alike (edge_sharpness_of level edge))) ∙ h) edges boundary in
+      let all : list_all (λ edge. not (is_boundary level.polygons edge) || test edge) edges ≡ true = boundary in
       sym (any-permuted is_infinite (ring_at level v) (ring_in t v) (ring-permuted t v is inside))
       ∙ any-mapped is_infinite (edge_sharpness_of level) (edges_at level v)
       ∙ any-both (has_end v) test edges

@@ -22,7 +22,8 @@ use Rattle.level_laws.proofs.HalfLemmas.{half-sharp}
 use Rattle.level_laws.proofs.TagLemmas.{boundary-edge}
 use Rattle.subdiv_model.specs.ObjMesh.{ObjMesh}
 use Rattle.subdiv_model.specs.Base.{base_level}
-use Rattle.mask_laws.specs.SharpBoundary.{is_infinite, has_sharp_boundary}
+use Rattle.subdiv_model.specs.Feature.{is_infinite}
+use Rattle.mask_laws.specs.SharpBoundary.{has_sharp_boundary}
 
 pub is-infinite : (s : Sharpness) → is_infinite s ≡ true → s ≡ Infinite
 is-infinite Smooth h = cc

@@ -16,7 +16,8 @@ use Rattle.subdiv_model.specs.Level.{Level, edge_sharpness_of, vertex_sharpness_
 use Rattle.subdiv_model.specs.Mask.{is_interior, rule_at, child_rule_at}
 use Rattle.number_laws.proofs.CountLemmas.{one_if, one-yes, count-cons}
 use Rattle.mesh_laws.proofs.PointLemmas.{two-edges, interior-faces, boundary-edges}
-use Rattle.mask_laws.specs.SharpBoundary.{is_infinite, has_sharp_boundary}
+use Rattle.subdiv_model.specs.Feature.{is_infinite}
+use Rattle.mask_laws.specs.SharpBoundary.{has_sharp_boundary}
 use Rattle.mask_laws.proofs.BoundaryLemmas.{infinite-half}
 
 -- edges of one face that end at a point have infinite places in its ring

@@ -21,7 +21,8 @@ use Rattle.mask_laws.proofs.SourceLemmas.{from-mask_of, from-points, from-sharp,
 use Rattle.mask_laws.proofs.ValueLemmas.{refined-moved_by}
 use Rattle.mask_laws.proofs.MaskLemmas.{mean-corners, mean-corner, mean-sharp_edge, mean-edge_mask}
 use Rattle.mask_laws.proofs.VertexLemmas.{mean-vertex_mask}
-use Rattle.mask_laws.specs.SharpBoundary.{is_infinite, has_sharp_boundary}
+use Rattle.subdiv_model.specs.Feature.{is_infinite}
+use Rattle.mask_laws.specs.SharpBoundary.{has_sharp_boundary}
 use Rattle.mask_laws.proofs.BoundaryLemmas.{IsSharpAtBoundary, sharp-at, sharp-child, sharp-levels, is-infinite, boundary-base}
 use Rattle.mask_laws.proofs.BoundaryRuleLemmas.{interior-now, interior-next}
 use Rattle.mesh_laws.proofs.PointLemmas.{one-or-two}

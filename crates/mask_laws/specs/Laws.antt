@@ -1,11 +1,10 @@
 -- Meshes, levels, points, terms and control numbers, for the laws of masks and refined values.
 -- Source: Drillolive.
 use Rattle.std.specs.Prelude.{◌≡◌, ℕ, ◌<◌, false, ℤ, List, length, map, IsTrue}
-use Rattle.std.specs.List.{list_all}
 use Rattle.subdiv_model.specs.Manifold.{IsManifold}
 use Rattle.subdiv_model.specs.ObjMesh.{ObjMesh, has_faces_over_points}
 use Rattle.subdiv_model.specs.Base.{base_level, is_at_boundary}
-use Rattle.subdiv_model.specs.Sharpness.{Sharpness, Method, uniform_child, is_proper_sharpness}
+use Rattle.subdiv_model.specs.Sharpness.{Sharpness, Method, uniform_child}
 use Rattle.subdiv_model.specs.Level.{Level, is_well_formed}
 use Rattle.subdiv_model.specs.Child.{refined_level}
 use Rattle.subdiv_model.specs.Rule.{is_smooth_or_dart, vertex_rule, same_mask, child_ring, transition_weight}
@@ -20,11 +19,6 @@ use Rattle.mask_laws.specs.SharpBoundary.{has_sharp_boundary}
 pub record IsManifoldMesh (mesh : ObjMesh) : Type 0 where
   pub manifold : IsManifold (length mesh.points) mesh.faces
   pub over_points : IsTrue (has_faces_over_points mesh)
-
--- each sharpness in the tags of the mesh is well formed
-pub record HasProperTags (mesh : ObjMesh) : Type 0 where
-  pub creases : IsTrue (list_all (λ crease. is_proper_sharpness crease.1) mesh.creases)
-  pub corner_tags : IsTrue (list_all (λ tag. is_proper_sharpness tag.1) mesh.corner_tags)
 
 -- the level of the mesh after k steps
 abbrev pub mesh_level : ObjMesh → ℕ → Level

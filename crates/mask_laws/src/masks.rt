@@ -15,7 +15,8 @@ ghost use Rattle.subdiv_model.specs.Value.{IsSameValue};
 ghost use Rattle.subdiv_model.specs.Refined.{mask_value};
 ghost use Rattle.mesh_laws.specs.Manifolds.{IsManifoldOver};
 ghost use Rattle.mask_laws.specs.SharpBoundary.{has_sharp_boundary};
-ghost use Rattle.mask_laws.specs.Laws.{Transition, SourceValues, BoundaryPoint, IsManifoldMesh, HasProperTags, IsManifoldWithSharpBoundary, IsInteriorWhereSmooth, GiveSameWeights, GiveSameValue, mesh_level, weight_of, value_of_terms};
+ghost use Rattle.level_laws.specs.Tags.{HasProperTags};
+ghost use Rattle.mask_laws.specs.Laws.{Transition, SourceValues, BoundaryPoint, IsManifoldMesh, IsManifoldWithSharpBoundary, IsInteriorWhereSmooth, GiveSameWeights, GiveSameValue, mesh_level, weight_of, value_of_terms};
 
 /// The mask of a face that has a corner is a mean: its weights are above 0 and sum to the denominator.
 pub fn face_masks_are_means()
@@ -32,7 +33,7 @@ pub fn edge_masks_are_means()
 {}
 
 /// The mask of a vertex is a mean: smooth, dart, crease, corner, and the blend of two of them. A vertex whose rule is smooth or
-/// dart, in this level or in the next, has as many faces as edges.
+/// dart, in this level or in the next, must have as many faces as edges.
 pub fn vertex_masks_are_means()
     ensures catmull_clark { (level : Level) (v : ℕ) → IsTrue (is_proper_at level v) → IsInteriorWhereSmooth level v
         → IsTrue (is_mean (vertex_mask level CatmullClark v)) }
@@ -51,7 +52,7 @@ pub fn transition_weights_are_above_zero()
     ensures at_most_one { (transition : Transition) → (weight_of transition).0 ≤ (weight_of transition).1 }
 {}
 
-/// Boundary edges, which have one face, are infinitely sharp at every level of every mesh, whatever its tags and boundary mode.
+/// Boundary edges, which have one face, are infinitely sharp at every level of every manifold mesh, whatever its boundary mode.
 /// If they are at one level, they are at the next; a closed level has no boundary edge.
 pub fn boundary_edges_stay_infinite()
     ensures mesh { (mesh : ObjMesh) → IsManifold (length mesh.points) mesh.faces → IsTrue (has_sharp_boundary (base_level mesh)) }

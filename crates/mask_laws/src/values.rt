@@ -7,7 +7,8 @@ ghost use Rattle.subdiv_model.specs.Value.{IsWholeOver};
 ghost use Rattle.subdiv_model.specs.ObjMesh.{ObjMesh};
 ghost use Rattle.subdiv_model.specs.Base.{base_level};
 ghost use Rattle.subdiv_model.specs.Refined.{refined_denominators};
-ghost use Rattle.mask_laws.specs.Laws.{Refinement, IsManifoldMesh, HasProperTags, IsManifoldWithSharpBoundary, HasMeansInSteps, IsTranslatedBy, values_of};
+ghost use Rattle.level_laws.specs.Tags.{HasProperTags};
+ghost use Rattle.mask_laws.specs.Laws.{Refinement, IsManifoldMesh, IsManifoldWithSharpBoundary, HasMeansInSteps, IsTranslatedBy, values_of};
 
 /// Each refined value is a whole number over the common denominator of its point, whatever the control points.
 pub fn values_are_whole_over_common_denominators()

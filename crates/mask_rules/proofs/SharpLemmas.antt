@@ -8,7 +8,8 @@ use Rattle.subdiv_model.specs.Level.{Level, edge_sharpness_of, vertex_sharpness_
 use Rattle.subdiv_model.specs.Rule.{child_ring, vertex_rule, is_smooth_or_dart}
 use Rattle.subdiv_model.specs.Mask.{CatmullClark, vertex_mask, is_mean, is_interior, rule_at, child_rule_at}
 use Rattle.sharpness_laws.proofs.ProperLemmas.{proper-at, proper-well_formed}
-use Rattle.mask_laws.specs.SharpBoundary.{is_infinite, has_sharp_boundary}
+use Rattle.subdiv_model.specs.Feature.{is_infinite}
+use Rattle.mask_laws.specs.SharpBoundary.{has_sharp_boundary}
 use Rattle.mask_laws.proofs.BoundaryRuleLemmas.{interior-now, interior-next}
 use Rattle.mask_laws.proofs.VertexLemmas.{mean-vertex_mask}
 use Rattle.level_topology.specs.Topology.{Topology, IsTopology, edge_at}

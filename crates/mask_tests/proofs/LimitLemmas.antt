@@ -4,7 +4,8 @@ use Rattle.std.proofs.lemmas.List.{get_or_default}
 use Rattle.std.proofs.lemmas.List.Sums.{list_all-from_AllPass}
 use Rattle.subdiv_model.specs.Edges.{edges_of, faces_of_edge, is_boundary}
 use Rattle.subdiv_model.specs.Level.{Level, edge_sharpness_of}
-use Rattle.mask_laws.specs.SharpBoundary.{has_sharp_boundary, is_infinite}
+use Rattle.subdiv_model.specs.Feature.{is_infinite}
+use Rattle.mask_laws.specs.SharpBoundary.{has_sharp_boundary}
 use Rattle.level_topology.specs.Topology.{edge_at}
 
 -- all marks are true

@@ -14,10 +14,10 @@ use Rattle.subdiv_model.specs.Level.{Level}
 use Rattle.subdiv_model.specs.ObjMesh.{ObjMesh}
 use Rattle.subdiv_model.specs.Polygons.{polygon_at}
 use Rattle.subdiv_model.specs.Leaf.{Location, base_location, grid_pairs, is_corner_of, leaf_line, leaf_of, location_faults}
-use Rattle.subdiv_model.specs.Sparse.{Meeting, meeting_to}
+use Rattle.subdiv_model.specs.Sparse.{FacePredicate, predicate_to}
 use Rattle.far_model.specs.Command as command
 use Rattle.far_model.specs.Command.{MapOptions}
-use Rattle.far_model.specs.Answer.{map_leaf, map_mesh_faults, meeting_by, positions_of, test_of}
+use Rattle.far_model.specs.Answer.{map_leaf, map_mesh_faults, predicate_by, positions_of, test_of}
 use Rattle.uniform_walk.proofs.FaultLemmas.{first-behind}
 use Rattle.level_topology.specs.Topology.{Topology}
 use Rattle.level_walk.specs.declared.fault.Cause.{Cause}
@@ -54,7 +54,7 @@ sparse-base mesh level accepted = let base = base-of mesh level accepted in reco
 
 -- the first fault of sparse levels without values, by its cause
 found-of-cause : (channel : Channel) (options : MapOptions) (mesh : ObjMesh) (k : ℕ) (cause : Cause) → channel ≡ positions_of mesh →
-    IsFaultAt Sharpnesses (base_level mesh) (meeting_by options.select options.depth mesh) options.depth k cause → IsFound (fault_at Positions k cause) (map_level_refusal options mesh)
+    IsFaultAt Sharpnesses (base_level mesh) (predicate_by options.select options.depth mesh) options.depth k cause → IsFound (fault_at Positions k cause) (map_level_refusal options mesh)
 found-of-cause channel options mesh k (TooManyFaces count) same is = is (positions_of mesh) refl Positions
 found-of-cause channel options mesh k (Overflow kind) same is = is (positions_of mesh) refl Positions
 found-of-cause channel options mesh k TooManyEntries same is = is (positions_of mesh) refl Positions
@@ -68,7 +68,7 @@ module _ (options : MapOptions) (mesh : ObjMesh) (level : Topology) (accepted : 
       (subst (λ t. IsSparseFault Sharpnesses (base_level mesh) t options.depth fault) named
       (subst (λ b. IsSparseFault Sharpnesses b test options.depth fault) accepted.level_is is))
 
-  pub map-found : (found : LevelMap) → IsMapOf level.level (meeting_to test level.level options.depth) options.depth found →
+  pub map-found : (found : LevelMap) → IsMapOf level.level (predicate_to test level.level options.depth) options.depth found →
       HasNoSparseFault level.level test options.depth → IsLevelMap options mesh found
   map-found found is fine =
       let here : HasNoSparseFault (base_level mesh) (test_of options.select) options.depth =
@@ -77,8 +77,8 @@ module _ (options : MapOptions) (mesh : ObjMesh) (level : Topology) (accepted : 
         mesh_is = record { manifold = accepted.manifold; small = accepted.small };
         fine = here (positions_of mesh) refl Positions;
         map_is =
-            subst (λ t. IsMapOf (base_level mesh) (meeting_to t (base_level mesh) options.depth) options.depth found) named
-            (subst (λ b. IsMapOf b (meeting_to test b options.depth) options.depth found) accepted.level_is is);
+            subst (λ t. IsMapOf (base_level mesh) (predicate_to t (base_level mesh) options.depth) options.depth found) named
+            (subst (λ b. IsMapOf b (predicate_to test b options.depth) options.depth found) accepted.level_is is);
       }
 
   pub map-steps : {X E : Type 0} (old new : ℕ) (r : Result X E) → AreSparseSteps level.level test options.depth old new → StepsTaken r old new 0 (later_present options.select options.depth mesh)
@@ -111,9 +111,9 @@ module _ (options : MapOptions) (mesh : ObjMesh) (found : LevelMap) (can : CanFi
       ∙ fits.1
 
   -- the answer of the map is the leaf
-  pub leaf-is : (leaf : Leaf) (i j : ℕ) → ((base : Level) (meeting : Meeting) (depth : ℕ) → IsMapOf base meeting depth found →
-      location_of leaf ≡ leaf_of options.grid depth base meeting (base_location options.face options.corner (i, j))) → location_of leaf ≡ map_leaf options mesh (i, j)
-  leaf-is leaf i j is = is (base_level mesh) (meeting_by options.select options.depth mesh) options.depth can.map_is.map_is
+  pub leaf-is : (leaf : Leaf) (i j : ℕ) → ((base : Level) (predicate : FacePredicate) (depth : ℕ) → IsMapOf base predicate depth found →
+      location_of leaf ≡ leaf_of options.grid depth base predicate (base_location options.face options.corner (i, j))) → location_of leaf ≡ map_leaf options mesh (i, j)
+  leaf-is leaf i j is = is (base_level mesh) (predicate_by options.select options.depth mesh) options.depth can.map_is.map_is
 
 -- one more leaf of a row
 pub row-more : (f : ℕ → Location) (before : List Location) (old new : List Leaf) (leaf : Leaf) (i : ℕ) → map location_of old ≡ before ++ map f (range_with_len 0 i) →

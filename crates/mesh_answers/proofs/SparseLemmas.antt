@@ -9,11 +9,11 @@ use Rattle.subdiv_model.specs.Mask.{CatmullClark}
 use Rattle.subdiv_model.specs.Feature.{FaceFacts}
 use Rattle.subdiv_model.specs.Fault.{Track, Positions}
 use Rattle.subdiv_model.specs.Channel.{Channel}
-use Rattle.subdiv_model.specs.Sparse.{Meeting}
+use Rattle.subdiv_model.specs.Sparse.{FacePredicate}
 use Rattle.subdiv_model.specs.SparseText.{written_points}
 use Rattle.subdiv_model.specs.SparseTexture.{points_part}
 use Rattle.far_model.specs.Command.{SparseOptions}
-use Rattle.far_model.specs.Answer.{meeting_for, positions_of, sparse_positions, test_of}
+use Rattle.far_model.specs.Answer.{predicate_for, positions_of, sparse_positions, test_of}
 use Rattle.level_walk.specs.declared.fault.Cause.{Cause}
 use Rattle.level_walk.specs.declared.fault.Cause.TheVariants.{TooManyFaces, Overflow, TooManyEntries, Memory}
 use Rattle.level_walk.specs.declared.fault.WalkFault.{WalkFault}
@@ -48,21 +48,21 @@ same-columns mesh k first second =
 
 -- a level with its values is one
 pub level-written : (options : SparseOptions) (mesh : ObjMesh) (points : List Point3) (k : ℕ) (level : SparseValues Point3) → map reader.point_of points ≡ mesh.points → 0 < mesh.common →
-    IsSparseLevel (positions_of mesh) (meeting_for options mesh) (control_rows (map numbers points)) k (sparse_rows numbers level) → IsPointsLevel mesh.common level (points_part (sparse_positions options mesh) k)
+    IsSparseLevel (positions_of mesh) (predicate_for options mesh) (control_rows (map numbers points)) k (sparse_rows numbers level) → IsPointsLevel mesh.common level (points_part (sparse_positions options mesh) k)
 level-written options mesh points k level said some is =
     let channel = positions_of mesh in
-    let meeting = meeting_for options mesh in
-    let written = written_points (base_level mesh) meeting k in
+    let predicate = predicate_for options mesh in
+    let written = written_points (base_level mesh) predicate k in
     let values = level.values.items in
     let xs = points-column mesh k (λ p. p.0) in
     let ys = points-column mesh k (λ p. p.1) in
     let zs = points-column mesh k (λ p. p.2) in
     let x : IsColumn numbers values 0 (values_at written xs) =
-    sparse-column numbers channel meeting points k level.faces values 0 _ (column-seen numbers reader.point_of 0 (λ p. p.0) (λ p. refl) points ∙ ap (map (λ p. p.0)) said) is in
+    sparse-column numbers channel predicate points k level.faces values 0 _ (column-seen numbers reader.point_of 0 (λ p. p.0) (λ p. refl) points ∙ ap (map (λ p. p.0)) said) is in
     let y : IsColumn numbers values 1 (values_at written ys) =
-    sparse-column numbers channel meeting points k level.faces values 1 _ (column-seen numbers reader.point_of 1 (λ p. p.1) (λ p. refl) points ∙ ap (map (λ p. p.1)) said) is in
+    sparse-column numbers channel predicate points k level.faces values 1 _ (column-seen numbers reader.point_of 1 (λ p. p.1) (λ p. refl) points ∙ ap (map (λ p. p.1)) said) is in
     let z : IsColumn numbers values 2 (values_at written zs) =
-    sparse-column numbers channel meeting points k level.faces values 2 _ (column-seen numbers reader.point_of 2 (λ p. p.2) (λ p. refl) points ∙ ap (map (λ p. p.2)) said) is in
+    sparse-column numbers channel predicate points k level.faces values 2 _ (column-seen numbers reader.point_of 2 (λ p. p.2) (λ p. refl) points ∙ ap (map (λ p. p.2)) said) is in
     let can : All (CanBeWritten mesh.common) values = can-be-written numbers mesh.common channel.greatest _ (written-point mesh.common) some values is.positive is.short is.within in
     record {
       faces = is.written;
@@ -76,12 +76,12 @@ abbrev pub no_rows : SparseRows
 no_rows = record { written = record { point_count = 0; faces = [] }; rows = [] }
 
 -- the first fault of sparse levels, by its cause
-pub found-of-cause : (channel : Channel) (meeting : Meeting) (track : Track) (depth k : ℕ) (cause : Cause) → IsSparseCause channel meeting depth k cause →
-    IsFound (fault_at track k cause) (first_of (sparse_faults Tables channel meeting track depth))
-found-of-cause channel meeting track depth k (TooManyFaces count) is = is track
-found-of-cause channel meeting track depth k (Overflow kind) is = is track
-found-of-cause channel meeting track depth k TooManyEntries is = is track
-found-of-cause channel meeting track depth k Memory is = tt
+pub found-of-cause : (channel : Channel) (predicate : FacePredicate) (track : Track) (depth k : ℕ) (cause : Cause) → IsSparseCause channel predicate depth k cause →
+    IsFound (fault_at track k cause) (first_of (sparse_faults Tables channel predicate track depth))
+found-of-cause channel predicate track depth k (TooManyFaces count) is = is track
+found-of-cause channel predicate track depth k (Overflow kind) is = is track
+found-of-cause channel predicate track depth k TooManyEntries is = is track
+found-of-cause channel predicate track depth k Memory is = tt
 
 -- The result of the walk over the sparse levels of a mesh's positions.
 module _ (options : SparseOptions) (mesh : ObjMesh) (points : List Point3) (said : map reader.point_of points ≡ mesh.points)
@@ -99,14 +99,14 @@ module _ (options : SparseOptions) (mesh : ObjMesh) (points : List Point3) (said
 
   pub sparse-failed : (fault : WalkFault) → IsSparseFaultTo test base options.depth fault → IsFound (walk_fault_of Positions fault) (sparse_position_refusal options mesh)
   sparse-failed fault is =
-      found-of-cause (positions_of mesh) (meeting_for options mesh) Positions options.depth fault.level fault.cause
+      found-of-cause (positions_of mesh) (predicate_for options mesh) Positions options.depth fault.level fault.cause
       (subst (λ t. IsSparseFaultTo t (positions_of mesh) options.depth fault) named (subst (λ b. IsSparseFaultTo test b options.depth fault) same is))
 
   -- the levels are those of the definitions
   pub sparse-found : IsWithinLimits mesh → 0 < mesh.common → (levels : List (SparseValues Point3)) →
       AreSparseTo test base (control_rows (map numbers points)) options.depth (map (sparse_rows numbers) levels) → ArePointsLevels options mesh levels
   sparse-found within common levels is =
-      let are : AreSparseLevels (positions_of mesh) (meeting_for options mesh) (control_rows (map numbers points)) options.depth (map (sparse_rows numbers) levels) =
+      let are : AreSparseLevels (positions_of mesh) (predicate_for options mesh) (control_rows (map numbers points)) options.depth (map (sparse_rows numbers) levels) =
       subst (λ t. AreSparseTo t (positions_of mesh) (control_rows (map numbers points)) options.depth (map (sparse_rows numbers) levels)) named
       (subst (λ b. AreSparseTo test b (control_rows (map numbers points)) options.depth (map (sparse_rows numbers) levels)) same is) in
       let count : length levels ≡ options.depth + 1 = sym (length-map levels (sparse_rows numbers)) ∙ are.count in
@@ -116,7 +116,7 @@ module _ (options : SparseOptions) (mesh : ObjMesh) (points : List Point3) (said
         count = count;
         each = λ k d h.
             level-written options mesh points k (get_or levels k d) said common
-            (subst (IsSparseLevel (positions_of mesh) (meeting_for options mesh) (control_rows (map numbers points)) k)
+            (subst (IsSparseLevel (positions_of mesh) (predicate_for options mesh) (control_rows (map numbers points)) k)
             (get_or-map (sparse_rows numbers) levels k d no_rows h) (are.each k (omega (arith, h, count))));
       }
 

@@ -11,7 +11,7 @@ use Rattle.subdiv_model.specs.SparseText.{sparse_text}
 use Rattle.subdiv_model.specs.SparseTexture.{texture_part, textured_sparse_text}
 use Rattle.far_model.specs.Command.{SparseOptions, Uv}
 use Rattle.far_model.specs.Command as command
-use Rattle.far_model.specs.Answer.{meeting_for, points_after, seams_of, sparse_mesh_faults, sparse_mesh_text, sparse_positions, sparse_texture, sparse_texture_faults, sparse_uv, texture_meeting}
+use Rattle.far_model.specs.Answer.{predicate_for, points_after, seams_of, sparse_mesh_faults, sparse_mesh_text, sparse_positions, sparse_texture, sparse_texture_faults, sparse_uv, texture_predicate}
 use Rattle.ratio128.specs.StepsTaken.{StepsTaken}
 use Rattle.ratio128.specs.declared.point.Point2.{Point2}
 use Rattle.ratio128.specs.declared.point.Point3.{Point3}
@@ -81,9 +81,9 @@ module _ (options : SparseOptions) (mesh : ObjMesh) where
 
   module _ (levels : List (SparseValues Point3)) (are : ArePointsLevels options mesh levels) where
     same-points : AllZip AreSameLevels (map (level_over mesh.common) levels)
-        (map (defined_level (points_after mesh) (base_level mesh) (meeting_for options mesh)) (range_with_len 0 (options.depth + 1)))
+        (map (defined_level (points_after mesh) (base_level mesh) (predicate_for options mesh)) (range_with_len 0 (options.depth + 1)))
     same-points =
-        levels-zip-to AreSameLevels (level_over mesh.common) (defined_level (points_after mesh) (base_level mesh) (meeting_for options mesh)) levels (options.depth + 1) are.count
+        levels-zip-to AreSameLevels (level_over mesh.common) (defined_level (points_after mesh) (base_level mesh) (predicate_for options mesh)) levels (options.depth + 1) are.count
         (λ k d h. record {
           written = (are.each k d h).faces;
           above = written-denominators mesh.common (get_or levels k d).values.items (are.each k d h).written;
@@ -101,13 +101,13 @@ module _ (options : SparseOptions) (mesh : ObjMesh) where
     unfolding written_text
     points-reply none short sparse kept over rounded =
         let base = base_level mesh in
-        let meeting = meeting_for options mesh in
+        let predicate = predicate_for options mesh in
         record {
           good = refusal-of-texture levels are ∙ ap (λ uv. first_of (sparse_texture_faults options mesh uv)) none;
           says =
-              sparse-text-same sparse (points_after mesh) base meeting options.depth
+              sparse-text-same sparse (points_after mesh) base predicate options.depth
               (rw (over, kept) same-points)
-              ∙ ap (λ decimals. sparse_text decimals (points_after mesh) base meeting options.depth) rounded
+              ∙ ap (λ decimals. sparse_text decimals (points_after mesh) base predicate options.depth) rounded
               ∙ ap (sparse_mesh_text options mesh) (sym none);
           put = record {
             written = rw (over, kept) all-written;
@@ -135,7 +135,7 @@ module _ (options : SparseOptions) (mesh : ObjMesh) where
             written = (are.each k d h).written;
             texture_written = (textured.each k e inside).written;
             faces = rw ((are.each k d h).faces, (textured.each k e inside).faces)
-                (faces-alike (base_level mesh) cut (meeting_for options mesh) (texture_meeting options mesh) k (cut-alike (seams_of mode) mesh k));
+                (faces-alike (base_level mesh) cut (predicate_for options mesh) (texture_predicate options mesh) k (cut-alike (seams_of mode) mesh k));
           }
 
       pub textured-reply : IfSome options.decimals (λ digits. digits ≤ 18) → (sparse : TexturedSparse) → sparse.mesh.levels.items ≡ levels → sparse.mesh.common ≡ mesh.common →

@@ -12,11 +12,11 @@ use Rattle.subdiv_model.specs.Cut.{channel_values, cut_level}
 use Rattle.subdiv_model.specs.Channel.{Channel}
 use Rattle.subdiv_model.specs.Fault.{Texture}
 use Rattle.subdiv_model.specs.Refined.{over_common, point_value}
-use Rattle.subdiv_model.specs.Sparse.{Meeting}
+use Rattle.subdiv_model.specs.Sparse.{FacePredicate}
 use Rattle.subdiv_model.specs.SparseText.{written_points}
 use Rattle.subdiv_model.specs.SparseTexture.{texture_part, texture_with}
 use Rattle.far_model.specs.Command.{SparseOptions, Uv}
-use Rattle.far_model.specs.Answer.{meeting_for, scheme_of, seams_of, sparse_texture, sparse_texture_faults, sparse_uv, texture_meeting, texture_of}
+use Rattle.far_model.specs.Answer.{predicate_for, scheme_of, seams_of, sparse_texture, sparse_texture_faults, sparse_uv, texture_predicate, texture_of}
 use Rattle.number_laws.proofs.MultipleLemmas.{product-positive}
 use Rattle.level_walk.specs.declared.fault.WalkFault.{WalkFault}
 use Rattle.raw_mesh.specs.View.{texture_of as value_of}
@@ -28,7 +28,7 @@ use Rattle.channel_refine.specs.Evaluated.{control_rows}
 use Rattle.sparse_channel.specs.Refined.{AreSparseLevels, IsSparseFault, IsSparseLevel}
 use Rattle.sparse_channel.specs.View.{sparse_rows}
 use Rattle.sparse_faces.specs.declared.values.SparseValues.{SparseValues}
-use Rattle.sparse_face_varying.specs.Steps.{AreMeetingSteps}
+use Rattle.sparse_face_varying.specs.Steps.{ArePredicateSteps}
 use Rattle.sparse_texture_laws.specs.Selection.{IsSelection}
 use Rattle.sparse_texture_laws.proofs.CutLemmas.{mesh-same}
 use Rattle.sparse_texture_laws.proofs.SelectionLemmas.{cut-selection}
@@ -87,19 +87,19 @@ module _ (common : ℕ) (us vs : List Value) where
 
 -- a level with its values is one
 level-written : (options : SparseOptions) (mesh : ObjMesh) (mode : Uv) (values : List Point2) (k : ℕ) (level : SparseValues Point2) → map value_of values ≡ channel_values mesh →
-    0 < mesh.texture_common → IsSparseLevel (texture_of mesh mode) (texture_meeting options mesh) (control_rows (map numbers values)) k (sparse_rows numbers level) →
+    0 < mesh.texture_common → IsSparseLevel (texture_of mesh mode) (texture_predicate options mesh) (control_rows (map numbers values)) k (sparse_rows numbers level) →
     IsTextureLevel mesh.texture_common level (texture_part (sparse_texture options mesh mode) k)
 level-written options mesh mode values k level said some is =
     let channel = texture_of mesh mode in
-    let meeting = texture_meeting options mesh in
-    let written = written_points channel.base meeting k in
+    let predicate = texture_predicate options mesh in
+    let written = written_points channel.base predicate k in
     let points = level.values.items in
     let us = texture-column mesh mode k (λ p. p.0) in
     let vs = texture-column mesh mode k (λ p. p.1) in
     let u : IsColumn numbers points 0 (values_at written us) =
-    sparse-column numbers channel meeting values k level.faces points 0 _ (column-seen numbers value_of 0 (λ p. p.0) (λ p. refl) values ∙ ap (map (λ p. p.0)) said) is in
+    sparse-column numbers channel predicate values k level.faces points 0 _ (column-seen numbers value_of 0 (λ p. p.0) (λ p. refl) values ∙ ap (map (λ p. p.0)) said) is in
     let v : IsColumn numbers points 1 (values_at written vs) =
-    sparse-column numbers channel meeting values k level.faces points 1 _ (column-seen numbers value_of 1 (λ p. p.1) (λ p. refl) values ∙ ap (map (λ p. p.1)) said) is in
+    sparse-column numbers channel predicate values k level.faces points 1 _ (column-seen numbers value_of 1 (λ p. p.1) (λ p. refl) values ∙ ap (map (λ p. p.1)) said) is in
     let alike : length us ≡ length vs =
     same-count (cut_level (seams_of mode) mesh) (scheme_of mode) (map (λ p. p.0) (channel_values mesh)) (map (λ p. p.1) (channel_values mesh)) k
     (length-map (channel_values mesh) (λ p. p.0) ∙ sym (length-map (channel_values mesh) (λ p. p.1))) in
@@ -112,22 +112,22 @@ level-written options mesh mode values k level said some is =
 
 -- The result of the walk over the sparse levels of a mesh's texture.
 module _ (options : SparseOptions) (mesh : ObjMesh) (mode : Uv) (asked : sparse_uv options mesh ≡ Some mode) (values : List Point2) (said : map value_of values ≡ channel_values mesh)
-    (base : Channel) (same : base ≡ texture_of mesh mode) (numbers-of : Meeting) (named : numbers-of ≡ texture_meeting options mesh) where
+    (base : Channel) (same : base ≡ texture_of mesh mode) (numbers-of : FacePredicate) (named : numbers-of ≡ texture_predicate options mesh) where
   pub texture-controls : AreControls base (control_rows (map numbers values))
   texture-controls = subst (λ b. AreControls b (control_rows (map numbers values))) (sym same) (value-controls mesh mode values said)
 
   pub texture-selection : IsSelection base.base options.depth numbers-of
   texture-selection =
-      let is : IsSelection (texture_of mesh mode).base options.depth (texture_meeting options mesh) =
-      cut-selection (base_level mesh) (cut_level (seams_of mode) mesh) (mesh-same (seams_of mode) mesh) (meeting_for options mesh) options.depth in
-      subst (λ m. IsSelection base.base options.depth m) (sym named) (subst (λ b. IsSelection b.base options.depth (texture_meeting options mesh)) (sym same) is)
+      let is : IsSelection (texture_of mesh mode).base options.depth (texture_predicate options mesh) =
+      cut-selection (base_level mesh) (cut_level (seams_of mode) mesh) (mesh-same (seams_of mode) mesh) (predicate_for options mesh) options.depth in
+      subst (λ m. IsSelection base.base options.depth m) (sym named) (subst (λ b. IsSelection b.base options.depth (texture_predicate options mesh)) (sym same) is)
 
   -- the steps are those of the levels after the first
-  pub texture-steps : {X E : Type 0} (old new : ℕ) (r : Result X E) → AreMeetingSteps base numbers-of options.depth old new →
+  pub texture-steps : {X E : Type 0} (old new : ℕ) (r : Result X E) → ArePredicateSteps base numbers-of options.depth old new →
       StepsTaken r old new 0 (where_sparse_texture options mesh (sparse_uv options mesh))
   texture-steps old new r taken =
-      let is : AreMeetingSteps (texture_of mesh mode) (texture_meeting options mesh) options.depth old new =
-      subst (λ m. AreMeetingSteps (texture_of mesh mode) m options.depth old new) named (subst (λ b. AreMeetingSteps b numbers-of options.depth old new) same taken) in
+      let is : ArePredicateSteps (texture_of mesh mode) (texture_predicate options mesh) options.depth old new =
+      subst (λ m. ArePredicateSteps (texture_of mesh mode) m options.depth old new) named (subst (λ b. ArePredicateSteps b numbers-of options.depth old new) same taken) in
       let here : StepsTaken r old new 0 (sparse_texture_steps options mesh mode) =
       any-steps r old new 0 (sparse_texture_steps options mesh mode) (omega (arith, is.later)) is.later (omega (arith, is.most)) in
       subst (λ uv. StepsTaken r old new 0 (where_sparse_texture options mesh uv)) (sym asked) here
@@ -135,7 +135,7 @@ module _ (options : SparseOptions) (mesh : ObjMesh) (mode : Uv) (asked : sparse_
   pub texture-failed : (fault : WalkFault) → IsSparseFault base numbers-of options.depth fault → IsFound (walk_fault_of Texture fault) (sparse_texture_refusal options mesh)
   texture-failed fault is =
       let found : IsFound (walk_fault_of Texture fault) (first_of (sparse_texture_faults options mesh (Some mode))) =
-      found-of-cause (texture_of mesh mode) (texture_meeting options mesh) Texture options.depth fault.level fault.cause
+      found-of-cause (texture_of mesh mode) (texture_predicate options mesh) Texture options.depth fault.level fault.cause
       (subst (λ m. IsSparseFault (texture_of mesh mode) m options.depth fault) named (subst (λ b. IsSparseFault b numbers-of options.depth fault) same is)) in
       subst (λ uv. IsFound (walk_fault_of Texture fault) (first_of (sparse_texture_faults options mesh uv))) (sym asked) found
 
@@ -143,7 +143,7 @@ module _ (options : SparseOptions) (mesh : ObjMesh) (mode : Uv) (asked : sparse_
   pub texture-found : 0 < mesh.texture_common → (levels : List (SparseValues Point2)) →
       AreSparseLevels base numbers-of (control_rows (map numbers values)) options.depth (map (sparse_rows numbers) levels) → AreTextureLevels options mesh mode levels
   texture-found common levels is =
-      let are : AreSparseLevels (texture_of mesh mode) (texture_meeting options mesh) (control_rows (map numbers values)) options.depth (map (sparse_rows numbers) levels) =
+      let are : AreSparseLevels (texture_of mesh mode) (texture_predicate options mesh) (control_rows (map numbers values)) options.depth (map (sparse_rows numbers) levels) =
       subst (λ m. AreSparseLevels (texture_of mesh mode) m (control_rows (map numbers values)) options.depth (map (sparse_rows numbers) levels)) named
       (subst (λ b. AreSparseLevels b numbers-of (control_rows (map numbers values)) options.depth (map (sparse_rows numbers) levels)) same is) in
       let count : length levels ≡ options.depth + 1 = sym (length-map levels (sparse_rows numbers)) ∙ are.count in
@@ -152,6 +152,6 @@ module _ (options : SparseOptions) (mesh : ObjMesh) (mode : Uv) (asked : sparse_
         count = count;
         each = λ k d h.
             level-written options mesh mode values k (get_or levels k d) said common
-            (subst (IsSparseLevel (texture_of mesh mode) (texture_meeting options mesh) (control_rows (map numbers values)) k)
+            (subst (IsSparseLevel (texture_of mesh mode) (texture_predicate options mesh) (control_rows (map numbers values)) k)
             (get_or-map (sparse_rows numbers) levels k d no_rows h) (are.each k (omega (arith, h, count))));
       }

@@ -21,7 +21,8 @@ use Rattle.subdiv_model.specs.Refined.{point_value, over_common, refined_values,
 use Rattle.far_model.specs.Answer.{asked_of, texture_numbers, texture_of, seams_of, scheme_of}
 use Rattle.number_laws.proofs.MultipleLemmas.{product-positive}
 use Rattle.mesh_laws.proofs.Laws.{all-simple}
-use Rattle.mask_laws.specs.SharpBoundary.{is_infinite, has_sharp_boundary}
+use Rattle.subdiv_model.specs.Feature.{is_infinite}
+use Rattle.mask_laws.specs.SharpBoundary.{has_sharp_boundary}
 use Rattle.mask_laws.proofs.BoundaryLemmas.{boundary-named, sharp-from}
 use Rattle.texture_laws.specs.CutMesh.{cut_faces, cut_point_count}
 use Rattle.texture_laws.proofs.ChannelLemmas.{over_corners}

@@ -9,7 +9,7 @@ use Rattle.subdiv_model.specs.Mask.{Scheme, child_masks}
 use Rattle.subdiv_model.specs.Child.{refined_level}
 use Rattle.subdiv_model.specs.Channel.{Channel, denominators_after}
 use Rattle.subdiv_model.specs.Refined.{Point, point_value, over_common, points_of_coordinates, refined_values, control_values}
-use Rattle.subdiv_model.specs.Sparse.{Meeting}
+use Rattle.subdiv_model.specs.Sparse.{FacePredicate}
 use Rattle.subdiv_model.specs.SparseText.{WrittenLevel, points_with, written_points}
 use Rattle.sparse_values.specs.Uniform.{items_at}
 use Rattle.number_laws.proofs.MultipleLemmas.{product-positive}
@@ -119,13 +119,13 @@ picked-positive xs dens each (v ∷ written) zero h = each v h
 picked-positive xs dens each (v ∷ written) (suc p) h = picked-positive xs dens each written p h
 
 -- a column of a sparse level is the refined column of its controls, at the written points
-pub sparse-column : {P : Type 0} (shown : P → List ℤ) (channel : Channel) (meeting : Meeting) (points : List P) (k : ℕ) (faces : WrittenLevel) (values : List (Valued P)) (column : ℕ) (controls : List ℤ) →
+pub sparse-column : {P : Type 0} (shown : P → List ℤ) (channel : Channel) (predicate : FacePredicate) (points : List P) (k : ℕ) (faces : WrittenLevel) (values : List (Valued P)) (column : ℕ) (controls : List ℤ) →
     map (λ p. get_or (shown p) column (pos 0)) points ≡ controls →
-    IsSparseLevel channel meeting (control_rows (map shown points)) k (record { written = faces; rows = rows_of shown values }) →
-    IsColumn shown values column (values_at (written_points channel.base meeting k) (refined_values channel.base channel.scheme (control_values controls) k))
-sparse-column shown channel meeting points k faces values column controls same is =
+    IsSparseLevel channel predicate (control_rows (map shown points)) k (record { written = faces; rows = rows_of shown values }) →
+    IsColumn shown values column (values_at (written_points channel.base predicate k) (refined_values channel.base channel.scheme (control_values controls) k))
+sparse-column shown channel predicate points k faces values column controls same is =
     let rows = rows_of shown values in
-    let written = written_points channel.base meeting k in
+    let written = written_points channel.base predicate k in
     let xs = refined_values channel.base channel.scheme (control_values controls) k in
     let stands : StandFor rows column (values_at written xs) =
     subst (λ cs. StandFor rows column (values_at written (refined_values channel.base channel.scheme (control_values cs) k)))

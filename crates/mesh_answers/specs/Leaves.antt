@@ -9,7 +9,7 @@ use Rattle.subdiv_model.specs.Leaf.{Location, location_faults}
 use Rattle.subdiv_model.specs.ObjMesh.{ObjMesh}
 use Rattle.subdiv_model.specs.SparseFaults.{sparse_faults}
 use Rattle.far_model.specs.Command.{MapOptions}
-use Rattle.far_model.specs.Answer.{map_leaf, meeting_by, positions_of}
+use Rattle.far_model.specs.Answer.{map_leaf, predicate_by, positions_of}
 use Rattle.far_fault.specs.View.{place_fault_of}
 use Rattle.far_fault.specs.declared.fault.PlaceFault.{PlaceFault}
 use Rattle.patch_map.specs.declared.leaf.Leaf.{Leaf}
@@ -20,7 +20,7 @@ use Rattle.mesh_answers.specs.SparseLevels.{IsWithinLimits}
 
 -- the faults of the faces and of the sharpness of a mesh's sparse levels
 abbrev pub map_level_faults : MapOptions → ObjMesh → List Fault
-map_level_faults options mesh = sparse_faults Sharpnesses (positions_of mesh) (meeting_by options.select options.depth mesh) Positions options.depth
+map_level_faults options mesh = sparse_faults Sharpnesses (positions_of mesh) (predicate_by options.select options.depth mesh) Positions options.depth
 
 -- the first of these faults, or none
 abbrev pub map_level_refusal : MapOptions → ObjMesh → Option Fault
@@ -30,7 +30,7 @@ map_level_refusal options mesh = first_of (map_level_faults options mesh)
 pub record IsLevelMap (options : MapOptions) (mesh : ObjMesh) (found : LevelMap) : Type 0 where
   pub mesh_is : IsWithinLimits mesh
   pub fine : map_level_faults options mesh ≡ []
-  pub map_is : IsMapOf (base_level mesh) (meeting_by options.select options.depth mesh) options.depth found
+  pub map_is : IsMapOf (base_level mesh) (predicate_by options.select options.depth mesh) options.depth found
 
 -- the requested face has this fault, or it has places with the requested corner
 pub record IsMapFor (options : MapOptions) (mesh : ObjMesh) (fault : Option PlaceFault) (found : LevelMap) : Type 0 where

@@ -14,7 +14,7 @@ use Rattle.subdiv_model.specs.Fault.{Fault, Positions}
 use Rattle.subdiv_model.specs.SparseFaults.{sparse_faults}
 use Rattle.subdiv_model.specs.SparseTexture.{SparsePart, points_part, texture_part}
 use Rattle.far_model.specs.Command.{SparseOptions, Uv}
-use Rattle.far_model.specs.Answer.{meeting_for, positions_of, sparse_positions, sparse_texture, sparse_texture_faults, sparse_uv, texture_of}
+use Rattle.far_model.specs.Answer.{predicate_for, positions_of, sparse_positions, sparse_texture, sparse_texture_faults, sparse_uv, texture_of}
 use Rattle.ratio128.specs.declared.point.Point2.{Point2}
 use Rattle.ratio128.specs.declared.point.Point3.{Point3}
 use Rattle.raw_mesh.specs.View.{texture_of as value_of}
@@ -61,7 +61,7 @@ pub record IsTextureLevel (common : ℕ) (level : SparseValues Point2) (part : S
 
 -- the faults of the sparse levels of the positions up to the depth
 abbrev pub sparse_position_faults : SparseOptions → ObjMesh → List Fault
-sparse_position_faults options mesh = sparse_faults Tables (positions_of mesh) (meeting_for options mesh) Positions options.depth
+sparse_position_faults options mesh = sparse_faults Tables (positions_of mesh) (predicate_for options mesh) Positions options.depth
 
 -- the sparse levels of the positions from 0 to the depth, for a mesh without fault
 pub record ArePointsLevels (options : SparseOptions) (mesh : ObjMesh) (levels : List (SparseValues Point3)) : Type 0 where

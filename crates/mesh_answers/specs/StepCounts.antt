@@ -13,9 +13,9 @@ use Rattle.subdiv_model.specs.Support.{entries_after}
 use Rattle.subdiv_model.specs.Limit.{limit_entries_after}
 use Rattle.subdiv_model.specs.Patch.{patch_entries_after}
 use Rattle.subdiv_model.specs.Channel.{Channel}
-use Rattle.subdiv_model.specs.Sparse.{Meeting}
+use Rattle.subdiv_model.specs.Sparse.{FacePredicate}
 use Rattle.subdiv_model.specs.SparseFaults.{present_entries, present_faces}
-use Rattle.far_model.specs.Answer.{made_mesh, meeting_by, meeting_for, positions_of, seams_of, scheme_of, sparse_uv, texture_meeting, texture_of}
+use Rattle.far_model.specs.Answer.{made_mesh, predicate_by, predicate_for, positions_of, seams_of, scheme_of, sparse_uv, texture_predicate, texture_of}
 
 -- the number of faces of a mesh's levels from 1 to a depth
 abbrev pub later_faces : ℕ → ObjMesh → ℕ
@@ -54,26 +54,26 @@ refine_limit options mesh =
 
 -- the number of present faces of a mesh's sparse levels from 1 to a depth
 abbrev pub later_present : Select → ℕ → ObjMesh → ℕ
-later_present select depth mesh = sum_by (present_faces (base_level mesh) (meeting_by select depth mesh)) (range_with_len 1 depth)
+later_present select depth mesh = sum_by (present_faces (base_level mesh) (predicate_by select depth mesh)) (range_with_len 1 depth)
 
 -- the number of present faces of a mesh's sparse levels from 0 to a depth; all faces of level 0 are present
 abbrev pub present_faces_to : Select → ℕ → ObjMesh → ℕ
 present_faces_to select depth mesh = length mesh.faces + later_present select depth mesh
 
 -- the number of entries of the tables of the present points of a channel's levels
-abbrev pub present_entries_to : Channel → Meeting → ℕ → ℕ
-present_entries_to channel meeting depth = sum_by (present_entries channel meeting) (range_with_len 0 (depth + 1))
+abbrev pub present_entries_to : Channel → FacePredicate → ℕ → ℕ
+present_entries_to channel predicate depth = sum_by (present_entries channel predicate) (range_with_len 0 (depth + 1))
 
 -- the number of steps of the sparse levels of the positions after level 0
 abbrev pub sparse_position_steps : SparseOptions → ObjMesh → ℕ
 sparse_position_steps options mesh =
-    later_present options.select options.depth mesh + present_entries_to (positions_of mesh) (meeting_for options mesh) options.depth
+    later_present options.select options.depth mesh + present_entries_to (positions_of mesh) (predicate_for options mesh) options.depth
 
 -- the number of steps of the sparse levels of the texture after level 0
 abbrev pub sparse_texture_steps : SparseOptions → ObjMesh → Uv → ℕ
 sparse_texture_steps options mesh uv =
-    sum_by (present_faces (texture_of mesh uv).base (texture_meeting options mesh)) (range_with_len 1 options.depth)
-    + present_entries_to (texture_of mesh uv) (texture_meeting options mesh) options.depth
+    sum_by (present_faces (texture_of mesh uv).base (texture_predicate options mesh)) (range_with_len 1 options.depth)
+    + present_entries_to (texture_of mesh uv) (texture_predicate options mesh) options.depth
 
 -- the number of steps of the cut mesh: one for each face, if there is a texture
 abbrev pub sparse_cut_steps : ObjMesh → Option Uv → ℕ

@@ -2,7 +2,7 @@
 
 ghost use Rattle.std.specs.Prelude.{◌≡◌, map, Some, Err, IsOkAnd, MatchResult};
 ghost use Rattle.far_model.specs.Command.{Sparse, IsReadInRange};
-ghost use Rattle.far_model.specs.Answer.{sparse_uv, texture_meeting};
+ghost use Rattle.far_model.specs.Answer.{sparse_uv, texture_predicate};
 ghost use Rattle.subdiv_model.specs.Fault.{Texture};
 ghost use Rattle.far_fault.specs.View.{fault_of};
 ghost use Rattle.far_fault.specs.Walk.{walk_fault_of};
@@ -45,7 +45,7 @@ fn texture_levels<L: Ledger>(
     steps: &mut Steps<L>,
 ) -> Result<Vec<SparseValues<Point2>>, FarFault>
     requires range { IsReadInRange (Sparse (sparse_of_code options.now)) }
-    requires numbers { map (λ list. list.items) numbers.now ≡ texture_meeting (sparse_of_code options.now) mesh.now }
+    requires numbers { map (λ list. list.items) numbers.now ≡ texture_predicate (sparse_of_code options.now) mesh.now }
     requires base { IsSparseBase (sparse_uv (sparse_of_code options.now) mesh.now) mesh.now (Some texture) }
     ensures levels { let asked = sparse_of_code options.now in IsFoundOr (λ levels. AreSparseTexture asked mesh.now levels.items) (sparse_texture_refusal asked mesh.now) result }
     ensures steps { StepsTaken result steps.old steps.new 0 (where_sparse_texture (sparse_of_code options.now) mesh.now (sparse_uv (sparse_of_code options.now) mesh.now)) }

@@ -3,7 +3,7 @@
 ghost use Rattle.std.specs.Prelude.{◌≡◌, ℕ, suc, ◌^◌, ◌<◌, ◌≤◌, true, length, map, get_or, IfOk, OnErr};
 ghost use Rattle.std.specs.List.{All, range_with_len};
 ghost use Rattle.subdiv_model.specs.Level as model;
-ghost use Rattle.subdiv_model.specs.Sparse.{Meeting};
+ghost use Rattle.subdiv_model.specs.Sparse.{FacePredicate};
 ghost use Rattle.subdiv_model.specs.Leaf.{base_location, is_corner_of, leaf_of};
 ghost use Rattle.leaf_laws.specs.FirstLeaf.{IsInGrid};
 ghost use Rattle.patch_map.specs.View.{location_of};
@@ -71,7 +71,7 @@ impl PatchMap {
     pub fn start(alloc: Global, base: &SparseLevel) -> Result<PatchMap, Memory>
         requires { base.now.depth ≡ 0 }
         ensures map { IfOk result (λ levels. levels ≡ map_of_base base.now.topology.level.polygons) }
-        ensures is { (meeting : Meeting) → IfOk result (IsMapOf base.now.topology.level meeting 0) }
+        ensures is { (predicate : FacePredicate) → IfOk result (IsMapOf base.now.topology.level predicate 0) }
     {
         let sizes = face_sizes(alloc, base.level())?;
         let starts = face_starts(alloc, base.level())?;
@@ -115,8 +115,8 @@ impl PatchMap {
     /// Error: `Memory`; the map is unchanged then.
     pub fn grow(&mut self, sparse: &SparseLevel, step: &SparseStep) -> Result<(), Memory>
         ensures map { Rises self.old.starts → IfOk result (λ _. self.new ≡ grown self.old step.now.selected step.now.depth step.now.numbers) }
-        ensures is { (base : model.Level) (meeting : Meeting) → IsMapOf base meeting sparse.now.depth self.old → IsStepOf base meeting sparse.now step.now
-            → IfOk result (λ _. IsMapOf base meeting step.now.depth self.new) }
+        ensures is { (base : model.Level) (predicate : FacePredicate) → IsMapOf base predicate sparse.now.depth self.old → IsStepOf base predicate sparse.now step.now
+            → IfOk result (λ _. IsMapOf base predicate step.now.depth self.new) }
         ensures failed { OnErr result (self.new ≡ self.old) }
     {
         sparse.facts();
@@ -163,8 +163,8 @@ impl PatchMap {
         requires i { i ≤ grid }
         requires j { j ≤ grid }
         ensures leaf { location_of result ≡ leaf_in self.now grid (base_location face corner (i, j)) }
-        ensures is { (base : model.Level) (meeting : Meeting) (depth : ℕ) → IsMapOf base meeting depth self.now
-            → location_of result ≡ leaf_of grid depth base meeting (base_location face corner (i, j)) }
+        ensures is { (base : model.Level) (predicate : FacePredicate) (depth : ℕ) → IsMapOf base predicate depth self.now
+            → location_of result ≡ leaf_of grid depth base predicate (base_location face corner (i, j)) }
     {
         let at = Leaf {
             level: 0,

@@ -36,7 +36,7 @@ pub fn transition_weights_do_not_see_the_order()
         → overflows_in_transition vertex ring ≡ overflows_in_transition vertex other }
 {}
 
-/// Equal fractions give the same sharpness, the same weight and the same child, whatever their terms.
+/// Equal fractions are the same sharpness, and give the same weight. As totals of a ring, they give the same child.
 pub fn equal_fractions_are_one_sharpness()
     ensures sharpness { (x y : ℕ × ℕ) → 0 < x.1 → 0 < y.1 → IsSameFraction x y → sharpness_of_fraction x ≡ sharpness_of_fraction y }
     ensures weight { (x y : ℕ × ℕ) → 0 < x.1 → 0 < y.1 → IsSameFraction x y → at_most_one x ≡ at_most_one y }

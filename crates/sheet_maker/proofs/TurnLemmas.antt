@@ -63,11 +63,11 @@ module _ (size : ℕ) where
 
   -- a path of faces at the point that contains each face there is its fan
   pub fan-of : (r c : ℕ) (fan : List ℕ) → c < size + 1 → is_distinct fan ≡ true → list_all (λ face. has_corner (sheet_point size r c) (polygon_at (sheet_faces size) face)) fan ≡ true → ((i j : ℕ) → i < size → j < size → Touches r c i j → is_among fan (face_number size i j) ≡ true) → IsPath (sheet_faces size) (sheet_point size r c) fan → HasOneFan (sheet_faces size) (sheet_point size r c)
-  fan-of r c fan inside once meeting complete path = record { fan = fan; once = once; all = λ face. (there face, back face); path = path }
+  fan-of r c fan inside once predicate complete path = record { fan = fan; once = once; all = λ face. (there face, back face); path = path }
     where
       there : (face : ℕ) → is_among fan face ≡ true → has_corner (sheet_point size r c) (polygon_at (sheet_faces size) face) ≡ true
       there face h =
-          let found = any-all (nat_eq face) (λ n. has_corner (sheet_point size r c) (polygon_at (sheet_faces size) n)) fan h meeting in
+          let found = any-all (nat_eq face) (λ n. has_corner (sheet_point size r c) (polygon_at (sheet_faces size) n)) fan h predicate in
           ap (λ (n : ℕ). has_corner (sheet_point size r c) (polygon_at (sheet_faces size) n)) (eqb-true face found.0 found.1) ∙ found.2
 
       back : (face : ℕ) → has_corner (sheet_point size r c) (polygon_at (sheet_faces size) face) ≡ true → is_among fan face ≡ true

@@ -9,7 +9,7 @@ use Rattle.subdiv_model.specs.Fault as model
 use Rattle.subdiv_model.specs.Fault.{Fault, Track, Overflow, ChaikinOverflow, TransitionOverflow, DenominatorOverflow, ValueOverflow}
 use Rattle.subdiv_model.specs.Channel.{Channel, Tables, number_bound, entry_bound, has_chaikin_overflow, has_transition_overflow, has_denominator_overflow, has_many_entries, has_value_overflow}
 use Rattle.subdiv_model.specs.Limits.{face_limit}
-use Rattle.subdiv_model.specs.Sparse.{Meeting}
+use Rattle.subdiv_model.specs.Sparse.{FacePredicate}
 use Rattle.subdiv_model.specs.SparseFaults.{present_denominators, present_entries, present_faces, sparse_faults, sparse_level_faults, sparse_levels}
 use Rattle.level_topology.specs.Child.{PointOrigin}
 use Rattle.child_masks.specs.Masks.{IsFirstTransition, HasNoTransition}
@@ -23,68 +23,68 @@ use Rattle.channel_refine.proofs.FaultLemmas.{HasNoFault, IsFirstHeld, none-held
 use Rattle.sparse_channel.specs.Refined.{IsSparseCause}
 
 -- the level has this number of present faces, which is too many
-abbrev pub has_many_faces : Channel → Meeting → ℕ → Bool
-has_many_faces channel meeting k = nat_lt face_limit (present_faces channel.base meeting (suc k))
+abbrev pub has_many_faces : Channel → FacePredicate → ℕ → Bool
+has_many_faces channel predicate k = nat_lt face_limit (present_faces channel.base predicate (suc k))
 
 -- the level after k + 1 steps has no fault
-pub record HasNone (channel : Channel) (meeting : Meeting) (k : ℕ) : Type 0 where
-  pub faces : has_many_faces channel meeting k ≡ false
-  pub numbers : HasNoFault Tables (sparse_levels channel meeting) k
+pub record HasNone (channel : Channel) (predicate : FacePredicate) (k : ℕ) : Type 0 where
+  pub faces : has_many_faces channel predicate k ≡ false
+  pub numbers : HasNoFault Tables (sparse_levels channel predicate) k
 
-module _ (channel : Channel) (meeting : Meeting) where
+module _ (channel : Channel) (predicate : FacePredicate) where
   -- the tests of the level after k + 1 steps, in the order of its faults
   abbrev tests : Track → ℕ → List (Bool × Fault)
   tests track k =
-      (has_many_faces channel meeting k, model.TooLarge (model.LevelFaces (suc k) (present_faces channel.base meeting (suc k))))
-      ∷ (has_chaikin_overflow (sparse_levels channel meeting) k, Overflow track (suc k) ChaikinOverflow)
-      ∷ (has_transition_overflow (sparse_levels channel meeting) k, Overflow track (suc k) TransitionOverflow)
-      ∷ (has_denominator_overflow (sparse_levels channel meeting) k, Overflow track (suc k) DenominatorOverflow)
-      ∷ (has_many_entries (sparse_levels channel meeting) k, model.TooLarge (model.Entries (suc k)))
-      ∷ (has_value_overflow (sparse_levels channel meeting) k, Overflow track (suc k) ValueOverflow)
+      (has_many_faces channel predicate k, model.TooLarge (model.LevelFaces (suc k) (present_faces channel.base predicate (suc k))))
+      ∷ (has_chaikin_overflow (sparse_levels channel predicate) k, Overflow track (suc k) ChaikinOverflow)
+      ∷ (has_transition_overflow (sparse_levels channel predicate) k, Overflow track (suc k) TransitionOverflow)
+      ∷ (has_denominator_overflow (sparse_levels channel predicate) k, Overflow track (suc k) DenominatorOverflow)
+      ∷ (has_many_entries (sparse_levels channel predicate) k, model.TooLarge (model.Entries (suc k)))
+      ∷ (has_value_overflow (sparse_levels channel predicate) k, Overflow track (suc k) ValueOverflow)
       ∷ []
 
-  none-of-level : (track : Track) (k : ℕ) → HasNone channel meeting k → sparse_level_faults Tables channel meeting track k ≡ []
+  none-of-level : (track : Track) (k : ℕ) → HasNone channel predicate k → sparse_level_faults Tables channel predicate track k ≡ []
   none-of-level track k is =
       none-held (tests track k) (is.faces, (is.numbers.chaikin, (is.numbers.transition, (is.numbers.denominator, (is.numbers.entries, (is.numbers.value, tt))))))
 
   -- no level has a fault
-  pub no-faults : (track : Track) (depth : ℕ) → ((k : ℕ) → k < depth → HasNone channel meeting k) → sparse_faults Tables channel meeting track depth ≡ []
-  no-faults track depth none = flat-none (sparse_level_faults Tables channel meeting track) 0 depth (λ k h. none-of-level track k (none k (omega (arith, h))))
+  pub no-faults : (track : Track) (depth : ℕ) → ((k : ℕ) → k < depth → HasNone channel predicate k) → sparse_faults Tables channel predicate track depth ≡ []
+  no-faults track depth none = flat-none (sparse_level_faults Tables channel predicate track) 0 depth (λ k h. none-of-level track k (none k (omega (arith, h))))
 
   -- the next level has a fault, and those before it have none
-  module _ (k depth : ℕ) (within : k < depth) (before : (j : ℕ) → j < k → HasNone channel meeting j) where
+  module _ (k depth : ℕ) (within : k < depth) (before : (j : ℕ) → j < k → HasNone channel predicate j) where
     first-at : (track : Track) (at : ℕ) → IsFirstHeld (tests track k) at
-        → first_of (sparse_faults Tables channel meeting track depth) ≡ Some (get_or (tests track k) at (false, Overflow track 0 ChaikinOverflow)).1
+        → first_of (sparse_faults Tables channel predicate track depth) ≡ Some (get_or (tests track k) at (false, Overflow track 0 ChaikinOverflow)).1
     first-at track at is =
-        first-from-0 (sparse_level_faults Tables channel meeting track) depth k (get_or (tests track k) at (false, Overflow track 0 ChaikinOverflow)).1 within (λ j h. none-of-level track j (before j h))
+        first-from-0 (sparse_level_faults Tables channel predicate track) depth k (get_or (tests track k) at (false, Overflow track 0 ChaikinOverflow)).1 within (λ j h. none-of-level track j (before j h))
         (first-held (tests track k) at (false, Overflow track 0 ChaikinOverflow) is)
 
     named : suc k ≡ k + 1
     named = omega arith
 
     -- too many faces are present, or halves overflow
-    pub faces-first : (count : ℕ) → count ≡ present_faces channel.base meeting (suc k) → face_limit < count → IsSparseCause channel meeting depth (k + 1) (cause.TooManyFaces count)
+    pub faces-first : (count : ℕ) → count ≡ present_faces channel.base predicate (suc k) → face_limit < count → IsSparseCause channel predicate depth (k + 1) (cause.TooManyFaces count)
     faces-first count is many = λ track.
-        first-at track 0 (lt-ltb face_limit (present_faces channel.base meeting (suc k)) (subst (λ n. face_limit < n) is many))
+        first-at track 0 (lt-ltb face_limit (present_faces channel.base predicate (suc k)) (subst (λ n. face_limit < n) is many))
         ∙ ap (λ n. Some (model.TooLarge (model.LevelFaces (suc k) n))) (sym is)
         ∙ ap (λ m. Some (model.TooLarge (model.LevelFaces m count))) named
 
-    module _ (faces : has_many_faces channel meeting k ≡ false) where
-      pub chaikin-first : has_chaikin_overflow (sparse_levels channel meeting) k ≡ true → IsSparseCause channel meeting depth (k + 1) (cause.Overflow kind.Chaikin)
+    module _ (faces : has_many_faces channel predicate k ≡ false) where
+      pub chaikin-first : has_chaikin_overflow (sparse_levels channel predicate) k ≡ true → IsSparseCause channel predicate depth (k + 1) (cause.Overflow kind.Chaikin)
       chaikin-first over = λ track. first-at track 1 (faces, over) ∙ ap (λ m. Some (Overflow track m ChaikinOverflow)) named
 
       -- numbers cannot be carried to the level, given its common denominators and its number of entries
-      module _ (chaikin : has_chaikin_overflow (sparse_levels channel meeting) k ≡ false) (level : Level) (scheme : Scheme) (origins : List PointOrigin)
-          (fine : HasNoTransition level scheme origins → has_transition_overflow (sparse_levels channel meeting) k ≡ false)
-          (some : (v : ℕ) → IsFirstTransition level scheme origins v → has_transition_overflow (sparse_levels channel meeting) k ≡ true)
-          (dens : List ℕ) (are : dens ≡ present_denominators channel meeting (suc k)) (entries : ℕ) (many : entries ≡ present_entries channel meeting (suc k)) where
-        dens-fine : list_any (nat_lt number_bound) dens ≡ false → has_denominator_overflow (sparse_levels channel meeting) k ≡ false
+      module _ (chaikin : has_chaikin_overflow (sparse_levels channel predicate) k ≡ false) (level : Level) (scheme : Scheme) (origins : List PointOrigin)
+          (fine : HasNoTransition level scheme origins → has_transition_overflow (sparse_levels channel predicate) k ≡ false)
+          (some : (v : ℕ) → IsFirstTransition level scheme origins v → has_transition_overflow (sparse_levels channel predicate) k ≡ true)
+          (dens : List ℕ) (are : dens ≡ present_denominators channel predicate (suc k)) (entries : ℕ) (many : entries ≡ present_entries channel predicate (suc k)) where
+        dens-fine : list_any (nat_lt number_bound) dens ≡ false → has_denominator_overflow (sparse_levels channel predicate) k ≡ false
         dens-fine h = ap (list_any (nat_lt number_bound)) (sym are) ∙ h
 
-        entries-fine : entries ≤ entry_bound → has_many_entries (sparse_levels channel meeting) k ≡ false
+        entries-fine : entries ≤ entry_bound → has_many_entries (sparse_levels channel predicate) k ≡ false
         entries-fine h = ap (nat_lt entry_bound) (sym many) ∙ le-ltb entry_bound entries h
 
-        pub carried-first : (why : Cause) → IsCarryCause (max channel.greatest channel.common) level scheme origins dens entries why → IsSparseCause channel meeting depth (k + 1) why
+        pub carried-first : (why : Cause) → IsCarryCause (max channel.greatest channel.common) level scheme origins dens entries why → IsSparseCause channel predicate depth (k + 1) why
         carried-first (cause.Overflow kind.Transition) is = λ track.
             first-at track 2 (faces, (chaikin, some is.0 is.1)) ∙ ap (λ m. Some (Overflow track m TransitionOverflow)) named
         carried-first (cause.Overflow kind.Denominator) is = λ track.
@@ -103,7 +103,7 @@ module _ (channel : Channel) (meeting : Meeting) where
                     dens-fine is.1,
                     (
                       entries-fine is.2,
-                      lt-ltb number_bound (greatest_of (present_denominators channel meeting (suc k)) * max channel.greatest channel.common)
+                      lt-ltb number_bound (greatest_of (present_denominators channel predicate (suc k)) * max channel.greatest channel.common)
                           (subst (λ some. number_bound < greatest_of some * max channel.greatest channel.common) are is.3),
                     ),
                   ),

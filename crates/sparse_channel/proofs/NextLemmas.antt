@@ -5,12 +5,12 @@ use Rattle.std.proofs.lemmas.Bool.{le-ltb}
 use Rattle.subdiv_model.specs.Polygons.{is_over}
 use Rattle.subdiv_model.specs.Feature.{FaceFacts}
 use Rattle.subdiv_model.specs.Channel.{Channel, number_bound, entry_bound, has_chaikin_overflow, has_transition_overflow}
-use Rattle.subdiv_model.specs.Sparse.{Meeting}
+use Rattle.subdiv_model.specs.Sparse.{FacePredicate}
 use Rattle.subdiv_model.specs.SparseFaults.{present_denominators, present_entries, sparse_levels}
 use Rattle.sparse_laws.specs.SparseLevels.{SparseLevel, IsSparse}
 use Rattle.sparse_laws.specs.NextSparse.{next_points}
 use Rattle.sparse_laws.specs.Selected.{Agrees, selected_in}
-use Rattle.sparse_laws.specs.Laws.{Kept, AgreeingTest}
+use Rattle.sparse_laws.specs.Laws.{SparseRefinement, AgreeingTest}
 use Rattle.sparse_values.proofs.UniformLemmas.{weighs-here, weighs-there}
 use Rattle.level_topology.specs.Child.{PointOrigin, FromVertex}
 use Rattle.child_masks.specs.Masks.{has_origin, IsFirstTransition, HasNoTransition, dens_from}
@@ -28,44 +28,44 @@ use Rattle.sparse_channel.proofs.OriginLemmas.{origin_in, on-origin, origin-on}
 use Rattle.sparse_channel.proofs.TableLemmas.{IsUniformTable, dens-next, entries-next, entries-present, uniform-next}
 use Rattle.sparse_channel.proofs.FaultLemmas.{HasNone, has_many_faces, carried-first}
 
-module _ (channel : Channel) (meeting : Meeting) (sparse : SparseLevel) (over : IsTrue (is_over channel.base.point_count channel.base.polygons)) (is : IsSparse channel.base meeting sparse)
-    (test : FaceFacts → Bool) (agrees : Agrees test channel.base meeting sparse.depth) where
+module _ (channel : Channel) (predicate : FacePredicate) (sparse : SparseLevel) (over : IsTrue (is_over channel.base.point_count channel.base.polygons)) (is : IsSparse channel.base predicate sparse)
+    (test : FaceFacts → Bool) (agrees : Agrees test channel.base predicate sparse.depth) where
   -- the level as one of the definitions, with the test that selects
-  abbrev pub kept_at : Kept
-  kept_at = record { base = channel.base; meeting = meeting; sparse = sparse; over = over; is = is }
+  abbrev pub kept_at : SparseRefinement
+  kept_at = record { base = channel.base; predicate = predicate; sparse = sparse; over = over; is = is }
 
   abbrev pub by_test : AgreeingTest kept_at
   by_test = record { test = test; agrees = agrees }
 
-  module _ (table : Table) (uniform : IsUniformTable channel.base channel.scheme meeting sparse.depth table)
+  module _ (table : Table) (uniform : IsUniformTable channel.base channel.scheme predicate sparse.depth table)
       (origins : List PointOrigin) (from : origins ≡ map (origin_in sparse.level) (next_points sparse.level (selected_in test sparse))) where
     -- the weight between two rules passes its bound at a vertex of the sparse level exactly if it does in the definitions
-    transition-fine : HasNoTransition sparse.level channel.scheme origins → has_transition_overflow (sparse_levels channel meeting) sparse.depth ≡ false
-    transition-fine none = go (has_transition_overflow (sparse_levels channel meeting) sparse.depth) refl
+    transition-fine : HasNoTransition sparse.level channel.scheme origins → has_transition_overflow (sparse_levels channel predicate) sparse.depth ≡ false
+    transition-fine none = go (has_transition_overflow (sparse_levels channel predicate) sparse.depth) refl
       where
-        go : (b : Bool) → has_transition_overflow (sparse_levels channel meeting) sparse.depth ≡ b → has_transition_overflow (sparse_levels channel meeting) sparse.depth ≡ false
+        go : (b : Bool) → has_transition_overflow (sparse_levels channel predicate) sparse.depth ≡ b → has_transition_overflow (sparse_levels channel predicate) sparse.depth ≡ false
         go false e = e
         go true e =
             let found = weighs-there kept_at by_test channel.scheme e in
             let fine = none found.0 (ap (λ some. has_origin some (FromVertex found.0)) from ∙ on-origin kept_at by_test found.0 found.1.exists found.1.on) in
             absurd (cc (fine, found.1.overflows))
 
-    transition-some : (v : ℕ) → IsFirstTransition sparse.level channel.scheme origins v → has_transition_overflow (sparse_levels channel meeting) sparse.depth ≡ true
+    transition-some : (v : ℕ) → IsFirstTransition sparse.level channel.scheme origins v → has_transition_overflow (sparse_levels channel predicate) sparse.depth ≡ true
     transition-some v first =
         let at = origin-on kept_at by_test v (ap (λ some. has_origin some (FromVertex v)) (sym from) ∙ first.has) in
         weighs-here kept_at by_test channel.scheme v (record { exists = at.0; on = at.1; overflows = first.refused })
 
-    entries-are : entries_from sparse.level channel.scheme origins table ≡ present_entries channel meeting (suc sparse.depth)
+    entries-are : entries_from sparse.level channel.scheme origins table ≡ present_entries channel predicate (suc sparse.depth)
     entries-are =
-        entries-next kept_at by_test channel.scheme table uniform origins from ∙ entries-present channel.base channel.scheme meeting (suc sparse.depth)
+        entries-next kept_at by_test channel.scheme table uniform origins from ∙ entries-present channel.base channel.scheme predicate (suc sparse.depth)
 
     -- the table of the next level
-    pub next-table : (next : Table) → IsCarried (max channel.greatest channel.common) sparse.level channel.scheme origins table next → IsUniformTable channel.base channel.scheme meeting (suc sparse.depth) next
+    pub next-table : (next : Table) → IsCarried (max channel.greatest channel.common) sparse.level channel.scheme origins table next → IsUniformTable channel.base channel.scheme predicate (suc sparse.depth) next
     next-table next step = uniform-next kept_at by_test channel.scheme table uniform origins from next step.composed
 
-    module _ (faces : has_many_faces channel meeting sparse.depth ≡ false) (chaikin : has_chaikin_overflow (sparse_levels channel meeting) sparse.depth ≡ false) where
+    module _ (faces : has_many_faces channel predicate sparse.depth ≡ false) (chaikin : has_chaikin_overflow (sparse_levels channel predicate) sparse.depth ≡ false) where
       -- if the table is made, the next level has no fault
-      pub next-none : (next : Table) → IsCarried (max channel.greatest channel.common) sparse.level channel.scheme origins table next → HasNone channel meeting sparse.depth
+      pub next-none : (next : Table) → IsCarried (max channel.greatest channel.common) sparse.level channel.scheme origins table next → HasNone channel predicate sparse.depth
       next-none next step =
           let after = next-table next step in
           record {
@@ -74,20 +74,20 @@ module _ (channel : Channel) (meeting : Meeting) (sparse : SparseLevel) (over : 
               chaikin = chaikin;
               transition = transition-fine step.composed.fine;
               denominator = ap (list_any (nat_lt number_bound)) (sym after.dens) ∙ none-passes (dens_of next) (dens-short next step.made);
-              entries = le-ltb entry_bound (present_entries channel meeting (suc sparse.depth)) (few next after step.made.entries_few);
+              entries = le-ltb entry_bound (present_entries channel predicate (suc sparse.depth)) (few next after step.made.entries_few);
               value =
-                  le-ltb number_bound (greatest_of (present_denominators channel meeting (suc sparse.depth)) * max channel.greatest channel.common)
+                  le-ltb number_bound (greatest_of (present_denominators channel predicate (suc sparse.depth)) * max channel.greatest channel.common)
                   (subst (λ some. greatest_of some * max channel.greatest channel.common ≤ number_bound) after.dens step.fits);
             };
           }
         where
-          few : (next : Table) → IsUniformTable channel.base channel.scheme meeting (suc sparse.depth) next → entries_of next.rows ≤ entry_bound → present_entries channel meeting (suc sparse.depth) ≤ entry_bound
-          few next after h = omega (arith, h, entries-by-support next.rows, ap (sum_by length) after.supports, entries-present channel.base channel.scheme meeting (suc sparse.depth))
+          few : (next : Table) → IsUniformTable channel.base channel.scheme predicate (suc sparse.depth) next → entries_of next.rows ≤ entry_bound → present_entries channel predicate (suc sparse.depth) ≤ entry_bound
+          few next after h = omega (arith, h, entries-by-support next.rows, ap (sum_by length) after.supports, entries-present channel.base channel.scheme predicate (suc sparse.depth))
 
       -- else the fault is the first of all, if the levels before have none
-      pub next-fault : (depth : ℕ) → sparse.depth < depth → ((j : ℕ) → j < sparse.depth → HasNone channel meeting j) → (why : Cause)
-          → IsTableCause (max channel.greatest channel.common) sparse.level channel.scheme origins table why → IsSparseCause channel meeting depth (sparse.depth + 1) why
+      pub next-fault : (depth : ℕ) → sparse.depth < depth → ((j : ℕ) → j < sparse.depth → HasNone channel predicate j) → (why : Cause)
+          → IsTableCause (max channel.greatest channel.common) sparse.level channel.scheme origins table why → IsSparseCause channel predicate depth (sparse.depth + 1) why
       next-fault depth within before why fails =
-          carried-first channel meeting sparse.depth depth within before faces chaikin sparse.level channel.scheme origins transition-fine transition-some
+          carried-first channel predicate sparse.depth depth within before faces chaikin sparse.level channel.scheme origins transition-fine transition-some
           (dens_from sparse.level channel.scheme (dens_of table) origins) (dens-next kept_at by_test channel.scheme table uniform origins from)
           (entries_from sparse.level channel.scheme origins table) entries-are why fails

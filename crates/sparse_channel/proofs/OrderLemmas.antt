@@ -17,7 +17,7 @@ use Rattle.part_laws.specs.Parts.{is_corner}
 use Rattle.part_laws.proofs.ListLemmas.{map-twice}
 use Rattle.part_laws.proofs.JoinLemmas.{corner-of}
 use Rattle.sparse_laws.specs.Written.{used_points}
-use Rattle.sparse_laws.specs.Laws.{Kept}
+use Rattle.sparse_laws.specs.Laws.{SparseRefinement}
 use Rattle.sparse_laws.proofs.WrittenLemmas.{own-used, points-written}
 use Rattle.sparse_values.specs.Uniform.{at_points, items_at}
 use Rattle.stencil_apply.specs.Table.{Row, Table, row_at, entries_of}
@@ -47,7 +47,7 @@ same-at order values others are below = record {
       (subst (IsSameValue (point_value values (get_or order p 0))) (sym there) one);
 }
 
-module _ (kept : Kept) where
+module _ (kept : SparseRefinement) where
   -- the written points are points of the level
   pub used-below : list_all (λ n. nat_lt n kept.sparse.level.point_count) (used_points kept.sparse.level) ≡ true
   used-below =
@@ -58,13 +58,13 @@ module _ (kept : Kept) where
 
   -- the items of the uniform level at the written points
   pub items-written : {X : Type 0} (d : X) (items : List X)
-      → items_at (written_points kept.base kept.meeting kept.sparse.depth) d items ≡ items_at (used_points kept.sparse.level) d (at_points kept d items)
+      → items_at (written_points kept.base kept.predicate kept.sparse.depth) d items ≡ items_at (used_points kept.sparse.level) d (at_points kept d items)
   items-written d items =
       ap (λ points. items_at points d items) (points-written kept)
-      ∙ items-by d items (present_points kept.base kept.meeting kept.sparse.depth) (used_points kept.sparse.level)
+      ∙ items-by d items (present_points kept.base kept.predicate kept.sparse.depth) (used_points kept.sparse.level)
       (subst (λ n. list_all (λ p. nat_lt p n) (used_points kept.sparse.level) ≡ true) kept.is.points used-below)
 
-  module _ (scheme : Scheme) (table : Table) (is : IsUniformTable kept.base scheme kept.meeting kept.sparse.depth table) where
+  module _ (scheme : Scheme) (table : Table) (is : IsUniformTable kept.base scheme kept.predicate kept.sparse.depth table) where
     abbrev order : List ℕ
     order = used_points kept.sparse.level
 
@@ -72,17 +72,17 @@ module _ (kept : Kept) where
     pub rows-each : length table.rows ≡ kept.sparse.level.point_count
     rows-each =
         sym (length-map table.rows (λ (row : Row). row.den)) ∙ ap length is.dens
-        ∙ length-map (present_points kept.base kept.meeting kept.sparse.depth) (λ n. get_or (refined_denominators kept.base scheme kept.sparse.depth) n 1) ∙ sym kept.is.points
+        ∙ length-map (present_points kept.base kept.predicate kept.sparse.depth) (λ n. get_or (refined_denominators kept.base scheme kept.sparse.depth) n 1) ∙ sym kept.is.points
 
     pub order-below : list_all (λ n. nat_lt n (length table.rows)) (used_points kept.sparse.level) ≡ true
     order-below = subst (λ n. list_all (λ p. nat_lt p n) order ≡ true) (sym rows-each) used-below
 
     pub dens-written : dens_of (rows_at table (used_points kept.sparse.level))
-        ≡ items_at (written_points kept.base kept.meeting kept.sparse.depth) 1 (refined_denominators kept.base scheme kept.sparse.depth)
+        ≡ items_at (written_points kept.base kept.predicate kept.sparse.depth) 1 (refined_denominators kept.base scheme kept.sparse.depth)
     dens-written = part-at (λ row. row.den) table order ∙ ap (items_at order 1) is.dens ∙ sym (items-written 1 (refined_denominators kept.base scheme kept.sparse.depth))
 
     pub values-written : (numbers : List ℤ) → length numbers ≡ kept.base.point_count
-        → AreSameValues (items_at (written_points kept.base kept.meeting kept.sparse.depth) (whole_value (pos 0)) (refined_values kept.base scheme (control_values numbers) kept.sparse.depth))
+        → AreSameValues (items_at (written_points kept.base kept.predicate kept.sparse.depth) (whole_value (pos 0)) (refined_values kept.base scheme (control_values numbers) kept.sparse.depth))
         (row_values (rows_at table (used_points kept.sparse.level)) numbers)
     values-written numbers many =
         let zero_value = whole_value (pos 0) in
@@ -94,8 +94,8 @@ module _ (kept : Kept) where
 
     -- the entries of the rows are those of the written points
     pub entries-written : entries_of (rows_at table (used_points kept.sparse.level)).rows
-        ≡ sum_by (λ p. length (get_or (refined_supports kept.base scheme kept.sparse.depth) p [])) (written_points kept.base kept.meeting kept.sparse.depth)
+        ≡ sum_by (λ p. length (get_or (refined_supports kept.base scheme kept.sparse.depth) p [])) (written_points kept.base kept.predicate kept.sparse.depth)
     entries-written =
         sym (entries-by-support (rows_at table order).rows)
         ∙ ap (sum_by length) (part-at (λ row. support_of row.shares) table order ∙ ap (items_at order []) is.supports ∙ sym (items-written [] (refined_supports kept.base scheme kept.sparse.depth)))
-        ∙ sum-mapped (λ p. get_or (refined_supports kept.base scheme kept.sparse.depth) p []) length (written_points kept.base kept.meeting kept.sparse.depth)
+        ∙ sum-mapped (λ p. get_or (refined_supports kept.base scheme kept.sparse.depth) p []) length (written_points kept.base kept.predicate kept.sparse.depth)

@@ -19,7 +19,7 @@ use Rattle.part_laws.proofs.JoinLemmas.{corner-in, corner-of}
 use Rattle.part_laws.proofs.SelfLemmas.{among-at}
 use Rattle.part_laws.proofs.NameLemmas.{name-old}
 use Rattle.sparse_laws.specs.NextSparse.{vertex_at}
-use Rattle.sparse_laws.specs.Laws.{Kept, AgreeingTest, chosen_by}
+use Rattle.sparse_laws.specs.Laws.{SparseRefinement, AgreeingTest, chosen_by}
 use Rattle.sparse_laws.proofs.SelectedLemmas.{among-all}
 use Rattle.sparse_laws.proofs.CornerLemmas.{child, child-at-place}
 use Rattle.sparse_laws.proofs.CompleteLemmas.{kid, kids, kid-part}
@@ -73,7 +73,7 @@ vertex-number points faces n v h = go (nat_lt n points) (nat_lt (n - points) fac
 vertex-own : (points faces v : ℕ) → v < points → same_origin (FromVertex v) (numbered_origin points faces v) ≡ true
 vertex-own points faces v h = let below = lt-ltb v points h in rw below (eq-eqb v v refl)
 
-module _ (kept : Kept) (by : AgreeingTest kept) where
+module _ (kept : SparseRefinement) (by : AgreeingTest kept) where
   -- the points of the next sparse level are points of the whole next level
   pub next-below : list_all (λ n. nat_lt n (child_points kept.sparse.level.point_count kept.sparse.level.polygons)) (next_points_of by) ≡ true
   next-below =

@@ -5,7 +5,7 @@ use Rattle.subdiv_model.specs.Level.{Level}
 use Rattle.subdiv_model.specs.Feature.{FaceFacts}
 use Rattle.subdiv_model.specs.Mask.{Scheme}
 use Rattle.subdiv_model.specs.Channel.{Channel, number_bound}
-use Rattle.subdiv_model.specs.Sparse.{meeting_to}
+use Rattle.subdiv_model.specs.Sparse.{predicate_to}
 use Rattle.level_topology.specs.Topology.{Topology, IsTopology}
 use Rattle.level_walk.specs.declared.reached.Reached.{Reached}
 use Rattle.level_walk.specs.Walk.{Place}
@@ -32,7 +32,7 @@ module _ (test : FaceFacts → Bool) (channel : Channel) (depth : ℕ) (base : T
   started start from none =
       at-start test channel depth most same scheme by start
       (subst (λ b. levels.IsReached test b depth 0 start.reached.level.sparse) here (reached-start test base (sparse-base base is) formed depth start.reached.level from.level))
-      (uniform-base channel.base channel.scheme (meeting_to test channel.base depth) start.reached.carried (from.table ∙ ap (λ (level : Level). identity_table level.point_count) here))
+      (uniform-base channel.base channel.scheme (predicate_to test channel.base depth) start.reached.carried (from.table ∙ ap (λ (level : Level). identity_table level.point_count) here))
       from.made
       (subst (λ t. greatest_of t * max channel.greatest channel.common ≤ number_bound) (sym from.table)
       (times (greatest_of (identity_table base.level.point_count)) (max channel.greatest channel.common) (identity-greatest base.level.point_count) short))

@@ -8,8 +8,8 @@ use Rattle.subdiv_model.specs.Mask.{Scheme}
 use Rattle.subdiv_model.specs.Value.{whole_value}
 use Rattle.subdiv_model.specs.Refined.{mask_denominator, source_denominator, child_denominators, mask_value, source_value, control_values, refined_denominators, refined_values}
 use Rattle.subdiv_model.specs.Support.{mask_support, source_support, child_supports, refined_supports}
-use Rattle.subdiv_model.specs.Sparse.{Meeting, present_points}
-use Rattle.sparse_laws.specs.Laws.{Kept, AgreeingTest}
+use Rattle.subdiv_model.specs.Sparse.{FacePredicate, present_points}
+use Rattle.sparse_laws.specs.Laws.{SparseRefinement, AgreeingTest}
 use Rattle.sparse_values.specs.Uniform.{at_next_points, at_points, items_at, next_points_of}
 use Rattle.sparse_values.proofs.UniformLemmas.{same-denominators, same-supports, same-values}
 use Rattle.level_topology.specs.Child.{PointOrigin}
@@ -22,18 +22,18 @@ use Rattle.sparse_channel.proofs.ListLemmas.{items-all, sum-mapped}
 use Rattle.sparse_channel.proofs.OriginLemmas.{origin_in, at-origins, next-below}
 
 -- a table has the rows of the present points after k steps: their denominators, their controls, and their values for all numbers
-pub record IsUniformTable (base : Level) (scheme : Scheme) (meeting : Meeting) (k : ℕ) (table : Table) : Type 0 where
+pub record IsUniformTable (base : Level) (scheme : Scheme) (predicate : FacePredicate) (k : ℕ) (table : Table) : Type 0 where
   pub controls : table.controls ≡ base.point_count
-  pub dens : dens_of table ≡ items_at (present_points base meeting k) 1 (refined_denominators base scheme k)
-  pub supports : supports_of table ≡ items_at (present_points base meeting k) [] (refined_supports base scheme k)
+  pub dens : dens_of table ≡ items_at (present_points base predicate k) 1 (refined_denominators base scheme k)
+  pub supports : supports_of table ≡ items_at (present_points base predicate k) [] (refined_supports base scheme k)
   pub values : (numbers : List ℤ) → length numbers ≡ base.point_count
-      → AreSameValues (items_at (present_points base meeting k) (whole_value (pos 0)) (refined_values base scheme (control_values numbers) k)) (row_values table numbers)
+      → AreSameValues (items_at (present_points base predicate k) (whole_value (pos 0)) (refined_values base scheme (control_values numbers) k)) (row_values table numbers)
 
 -- the table of the points of level 0 themselves
-pub uniform-base : (base : Level) (scheme : Scheme) (meeting : Meeting) (table : Table) → table ≡ identity_table base.point_count → IsUniformTable base scheme meeting 0 table
-uniform-base base scheme meeting table same =
+pub uniform-base : (base : Level) (scheme : Scheme) (predicate : FacePredicate) (table : Table) → table ≡ identity_table base.point_count → IsUniformTable base scheme predicate 0 table
+uniform-base base scheme predicate table same =
     let count = base.point_count in
-    subst (IsUniformTable base scheme meeting 0) (sym same) (record {
+    subst (IsUniformTable base scheme predicate 0) (sym same) (record {
       controls = refl;
       dens = identity-dens 0 count ∙ sym (items-all 1 (refined_denominators base scheme 0) count (length-map-range_with_len (λ v. 1) 0 count));
       supports = identity-supports 0 count ∙ sym (items-all [] (refined_supports base scheme 0) count (length-map-range_with_len (λ v. v ∷ []) 0 count));
@@ -43,7 +43,7 @@ uniform-base base scheme meeting table same =
           (identity-values numbers count many);
     })
 
-module _ (kept : Kept) (by : AgreeingTest kept) (scheme : Scheme) (table : Table) (is : IsUniformTable kept.base scheme kept.meeting kept.sparse.depth table)
+module _ (kept : SparseRefinement) (by : AgreeingTest kept) (scheme : Scheme) (table : Table) (is : IsUniformTable kept.base scheme kept.predicate kept.sparse.depth table)
     (origins : List PointOrigin) (from : origins ≡ map (origin_in kept.sparse.level) (next_points_of by)) where
   abbrev level : Level
   level = kept.sparse.level
@@ -77,7 +77,7 @@ module _ (kept : Kept) (by : AgreeingTest kept) (scheme : Scheme) (table : Table
       ∙ same-values kept by scheme numbers
 
   -- the composed table is that of the next sparse level
-  pub uniform-next : (next : Table) → IsComposed kept.sparse.level scheme origins table next → IsUniformTable kept.base scheme kept.meeting (suc kept.sparse.depth) next
+  pub uniform-next : (next : Table) → IsComposed kept.sparse.level scheme origins table next → IsUniformTable kept.base scheme kept.predicate (suc kept.sparse.depth) next
   uniform-next next composed = record {
     controls = composed.controls ∙ is.controls;
     dens = composed.dens ∙ dens-next;
@@ -88,7 +88,7 @@ module _ (kept : Kept) (by : AgreeingTest kept) (scheme : Scheme) (table : Table
   }
 
 -- the entries of the rows of present points, counted point by point
-pub entries-present : (base : Level) (scheme : Scheme) (meeting : Meeting) (k : ℕ)
-    → sum_by length (items_at (present_points base meeting k) [] (refined_supports base scheme k))
-    ≡ sum_by (λ p. length (get_or (refined_supports base scheme k) p [])) (present_points base meeting k)
-entries-present base scheme meeting k = sum-mapped (λ p. get_or (refined_supports base scheme k) p []) length (present_points base meeting k)
+pub entries-present : (base : Level) (scheme : Scheme) (predicate : FacePredicate) (k : ℕ)
+    → sum_by length (items_at (present_points base predicate k) [] (refined_supports base scheme k))
+    ≡ sum_by (λ p. length (get_or (refined_supports base scheme k) p [])) (present_points base predicate k)
+entries-present base scheme predicate k = sum-mapped (λ p. get_or (refined_supports base scheme k) p []) length (present_points base predicate k)

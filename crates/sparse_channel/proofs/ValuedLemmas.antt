@@ -6,7 +6,7 @@ use Rattle.std.proofs.lemmas.List.Elements.{All-map}
 use Rattle.std.proofs.lemmas.List.Sums.{sum_by-cons}
 use Rattle.subdiv_model.specs.Feature.{FaceFacts}
 use Rattle.subdiv_model.specs.Channel.{Channel, number_bound}
-use Rattle.subdiv_model.specs.Sparse.{Meeting, meeting_to}
+use Rattle.subdiv_model.specs.Sparse.{FacePredicate, predicate_to}
 use Rattle.subdiv_model.specs.SparseFaults.{present_entries}
 use Rattle.subdiv_model.specs.SparseText.{WrittenLevel}
 use Rattle.mesh_laws.proofs.ClosedLemmas.{all-at}
@@ -56,7 +56,7 @@ entries-within first most j (level ∷ levels) each =
     omega (arith, now, rest, sum_by-cons most j (range_with_len (j + 1) (length levels)), ap (λ n. sum_by most (range_with_len n (length levels))) next)
 
 -- One level.
-module _ (channel : Channel) (meeting : Meeting) (k : ℕ) (order : List ℕ) (faces : WrittenLevel) (table : Table) (is : IsComposedLevel channel meeting k order faces table)
+module _ (channel : Channel) (predicate : FacePredicate) (k : ℕ) (order : List ℕ) (faces : WrittenLevel) (table : Table) (is : IsComposedLevel channel predicate k order faces table)
     (controls : List (List ℤ)) (are : AreControls channel (control_rows controls)) where
   abbrev most : ℕ
   most = max channel.greatest channel.common
@@ -70,15 +70,15 @@ module _ (channel : Channel) (meeting : Meeting) (k : ℕ) (order : List ℕ) (f
   rows-are = row-here (IsRow table.controls) is.made.rows
 
 -- a level that is kept
-module _ (channel : Channel) (meeting : Meeting) (k : ℕ) (order : List ℕ) (level : KeptLevel Table) (is : IsComposedLevel channel meeting k order level.faces level.carried)
+module _ (channel : Channel) (predicate : FacePredicate) (k : ℕ) (order : List ℕ) (level : KeptLevel Table) (is : IsComposedLevel channel predicate k order level.faces level.carried)
     (controls : List (List ℤ)) (are : AreControls channel (control_rows controls)) where
   abbrev picked : Table
   picked = rows_at level.carried order
 
   rows : All (IsRow level.carried.controls) (rows_at level.carried order).rows
-  rows = rows-are channel meeting k order level.faces level.carried is controls are
+  rows = rows-are channel predicate k order level.faces level.carried is controls are
 
-  level-valued : IsSparseLevel channel meeting (control_rows controls) k (valued controls order level)
+  level-valued : IsSparseLevel channel predicate (control_rows controls) k (valued controls order level)
   level-valued = record {
     written = is.written;
     dens = dens-evaluated channel picked is.controls rows controls are ∙ is.dens;
@@ -88,7 +88,7 @@ module _ (channel : Channel) (meeting : Meeting) (k : ℕ) (order : List ℕ) (l
     within = within-evaluated channel picked is.controls rows controls are;
     short =
         short-evaluated channel picked is.controls rows controls are
-        (row-here channel meeting k order level.faces level.carried is controls are (λ row. row.den * max channel.greatest channel.common ≤ number_bound) (short-rows level.carried (max channel.greatest channel.common) is.fits));
+        (row-here channel predicate k order level.faces level.carried is controls are (λ row. row.den * max channel.greatest channel.common ≤ number_bound) (short-rows level.carried (max channel.greatest channel.common) is.fits));
     positive = positive-evaluated channel picked is.controls rows controls are;
     alike = alike-evaluated channel picked is.controls rows controls are;
   }
@@ -103,14 +103,14 @@ none_kept = record { faces = record { point_count = 0; faces = [] }; carried = r
 module _ (test : FaceFacts → Bool) (channel : Channel) (depth : ℕ) (levels : List (KeptLevel Table)) (is : AreComposedTo test channel depth levels)
     (first : List ℕ) (ordered : first ≡ used_points channel.base) (controls : List (List ℤ)) (are : AreControls channel (control_rows controls)) where
   one-level : (k : ℕ) (d : KeptLevel Table) → k < length levels
-      → IsComposedLevel channel (meeting_to test channel.base depth) k (kept_order first k (get_or levels k d)) (get_or levels k d).faces (get_or levels k d).carried
+      → IsComposedLevel channel (predicate_to test channel.base depth) k (kept_order first k (get_or levels k d)) (get_or levels k d).faces (get_or levels k d).carried
   one-level k d h =
-      subst (λ order. IsComposedLevel channel (meeting_to test channel.base depth) k (kept_order order k (get_or levels k d)) (get_or levels k d).faces (get_or levels k d).carried) (sym ordered)
+      subst (λ order. IsComposedLevel channel (predicate_to test channel.base depth) k (kept_order order k (get_or levels k d)) (get_or levels k d).faces (get_or levels k d).carried) (sym ordered)
       (is.each k d (omega (arith, h, is.count)))
 
   -- the levels can be evaluated
   pub can-value-all : CanValueAll controls first levels
-  can-value-all k d h = can-value channel (meeting_to test channel.base depth) k (kept_order first k (get_or levels k d)) (get_or levels k d) (one-level k d h) controls are
+  can-value-all k d h = can-value channel (predicate_to test channel.base depth) k (kept_order first k (get_or levels k d)) (get_or levels k d) (one-level k d h) controls are
 
   -- their values are the sparse levels of the definitions
   pub all-valued : (made : List SparseRows) → made ≡ valued_from controls first 0 levels → AreSparseTo test channel (control_rows controls) depth made
@@ -119,15 +119,15 @@ module _ (test : FaceFacts → Bool) (channel : Channel) (depth : ℕ) (levels :
     count = valued-count controls first 0 levels ∙ is.count;
     each = λ k h.
         let below : k < length levels = omega (arith, h, is.count) in
-        subst (IsSparseLevel channel (meeting_to test channel.base depth) (control_rows controls) k) (sym (valued-at controls first 0 levels k _ none_kept below ∙ ap (λ n. valued controls (kept_order first n (get_or levels k none_kept)) (get_or levels k none_kept)) (zero-left k)))
-        (level-valued channel (meeting_to test channel.base depth) k (kept_order first k (get_or levels k none_kept)) (get_or levels k none_kept) (one-level k none_kept below) controls are);
+        subst (IsSparseLevel channel (predicate_to test channel.base depth) (control_rows controls) k) (sym (valued-at controls first 0 levels k _ none_kept below ∙ ap (λ n. valued controls (kept_order first n (get_or levels k none_kept)) (get_or levels k none_kept)) (zero-left k)))
+        (level-valued channel (predicate_to test channel.base depth) k (kept_order first k (get_or levels k none_kept)) (get_or levels k none_kept) (one-level k none_kept below) controls are);
   })
 
-  pub entries-few : entries_in first 0 levels ≤ entries_to channel (meeting_to test channel.base depth) depth
+  pub entries-few : entries_in first 0 levels ≤ entries_to channel (predicate_to test channel.base depth) depth
   entries-few =
       omega (
         arith,
-        entries-within first (present_entries channel (meeting_to test channel.base depth)) 0 levels (λ k d h.
-            subst (λ n. valued_entries (kept_order first n (get_or levels k d)) (get_or levels k d) ≤ present_entries channel (meeting_to test channel.base depth) n) (sym (zero-left k)) (one-level k d h).entries),
-        ap (λ n. sum_by (present_entries channel (meeting_to test channel.base depth)) (range_with_len 0 n)) is.count,
+        entries-within first (present_entries channel (predicate_to test channel.base depth)) 0 levels (λ k d h.
+            subst (λ n. valued_entries (kept_order first n (get_or levels k d)) (get_or levels k d) ≤ present_entries channel (predicate_to test channel.base depth) n) (sym (zero-left k)) (one-level k d h).entries),
+        ap (λ n. sum_by (present_entries channel (predicate_to test channel.base depth)) (range_with_len 0 n)) is.count,
       )

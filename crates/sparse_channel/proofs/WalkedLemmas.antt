@@ -6,7 +6,7 @@ use Rattle.subdiv_model.specs.Feature.{FaceFacts}
 use Rattle.subdiv_model.specs.Mask.{Scheme}
 use Rattle.subdiv_model.specs.Channel.{Channel, number_bound}
 use Rattle.subdiv_model.specs.Limits.{face_limit}
-use Rattle.subdiv_model.specs.Sparse.{Meeting, meeting_to}
+use Rattle.subdiv_model.specs.Sparse.{FacePredicate, predicate_to}
 use Rattle.subdiv_model.specs.SparseFaults.{present_faces}
 use Rattle.level_topology.specs.Topology.{Topology}
 use Rattle.level_topology.specs.Child.{ChildTopology}
@@ -47,53 +47,53 @@ plus-one : (k : ℕ) → k + 1 ≡ suc k
 plus-one k = omega arith
 
 -- The next level is not made: too many faces are present, or halves overflow.
-refused-first : (channel : Channel) (meeting : Meeting) (k depth : ℕ) → k < depth → ((j : ℕ) → j < k → HasNone channel meeting j) → (why : Cause) → HasCause channel.base meeting k why
-    → IsSparseCause channel meeting depth (k + 1) why
-refused-first channel meeting k depth within before (cause.TooManyFaces count) is = faces-first channel meeting k depth within before count is.0 is.1
-refused-first channel meeting k depth within before (cause.Overflow kind.Chaikin) is =
-    chaikin-first channel meeting k depth within before (le-ltb face_limit (present_faces channel.base meeting (suc k)) is.0) is.1
-refused-first channel meeting k depth within before (cause.Overflow kind.Transition) is = absurd is
-refused-first channel meeting k depth within before (cause.Overflow kind.Denominator) is = absurd is
-refused-first channel meeting k depth within before (cause.Overflow kind.Value) is = absurd is
-refused-first channel meeting k depth within before cause.TooManyEntries is = absurd is
-refused-first channel meeting k depth within before cause.Memory is = tt
+refused-first : (channel : Channel) (predicate : FacePredicate) (k depth : ℕ) → k < depth → ((j : ℕ) → j < k → HasNone channel predicate j) → (why : Cause) → HasCause channel.base predicate k why
+    → IsSparseCause channel predicate depth (k + 1) why
+refused-first channel predicate k depth within before (cause.TooManyFaces count) is = faces-first channel predicate k depth within before count is.0 is.1
+refused-first channel predicate k depth within before (cause.Overflow kind.Chaikin) is =
+    chaikin-first channel predicate k depth within before (le-ltb face_limit (present_faces channel.base predicate (suc k)) is.0) is.1
+refused-first channel predicate k depth within before (cause.Overflow kind.Transition) is = absurd is
+refused-first channel predicate k depth within before (cause.Overflow kind.Denominator) is = absurd is
+refused-first channel predicate k depth within before (cause.Overflow kind.Value) is = absurd is
+refused-first channel predicate k depth within before cause.TooManyEntries is = absurd is
+refused-first channel predicate k depth within before cause.Memory is = tt
 
 module _ (test : FaceFacts → Bool) (channel : Channel) (depth : ℕ) where
-  abbrev meeting : Meeting
-  meeting = meeting_to test channel.base depth
+  abbrev predicate : FacePredicate
+  predicate = predicate_to test channel.base depth
 
   -- the facts about the table of a level, and the steps that were taken
   pub record IsHeld (start k : ℕ) (table : Table) (steps : ℕ) : Type 0 where
-    pub table_is : IsUniformTable channel.base channel.scheme (meeting_to test channel.base depth) k table
-    pub none : (j : ℕ) → j < k → HasNone channel (meeting_to test channel.base depth) j
+    pub table_is : IsUniformTable channel.base channel.scheme (predicate_to test channel.base depth) k table
+    pub none : (j : ℕ) → j < k → HasNone channel (predicate_to test channel.base depth) j
     pub made : IsTable table
     pub fits : greatest_of table * max channel.greatest channel.common ≤ number_bound
     pub later : start ≤ steps
-    pub most : steps ≤ start + sum_by (present_faces channel.base (meeting_to test channel.base depth)) (range_with_len 1 k)
+    pub most : steps ≤ start + sum_by (present_faces channel.base (predicate_to test channel.base depth)) (range_with_len 1 k)
 
   -- the level as one of the definitions
   module _ (k : ℕ) (t : SparseTopology) (is : levels.IsReached test channel.base depth k t) where
-    is-sparse : k ≤ depth → IsSparse channel.base meeting (level_of t)
-    is-sparse within = is.stands.is meeting (λ j h. agrees-to test channel.base depth j (omega (arith, h, is.deep, within)))
+    is-sparse : k ≤ depth → IsSparse channel.base predicate (level_of t)
+    is-sparse within = is.stands.is predicate (λ j h. agrees-to test channel.base depth j (omega (arith, h, is.deep, within)))
 
     module _ (within : k < depth) where
-      agrees : Agrees test channel.base meeting t.depth
+      agrees : Agrees test channel.base predicate t.depth
       agrees = agrees-to test channel.base depth t.depth (omega (arith, within, is.deep))
 
-      sparse-within : IsSparse channel.base meeting (level_of t)
+      sparse-within : IsSparse channel.base predicate (level_of t)
       sparse-within = is-sparse (omega (arith, within))
 
       abbrev as_sparse : SparseOf test t
-      as_sparse = record { base = channel.base; meeting = meeting; over = is.stands.over; is = sparse-within; agrees = agrees }
+      as_sparse = record { base = channel.base; predicate = predicate; over = is.stands.over; is = sparse-within; agrees = agrees }
 
-      fine-step : (step : SparseChild) → IsRefined test t step → IsFine channel.base meeting t.depth
+      fine-step : (step : SparseChild) → IsRefined test t step → IsFine channel.base predicate t.depth
       fine-step step refined = fine-here test t as_sparse step refined
 
-      few-step : (step : SparseChild) → IsRefined test t step → has_many_faces channel meeting t.depth ≡ false
-      few-step step refined = le-ltb face_limit (present_faces channel.base meeting (suc t.depth)) (fine-step step refined).few
+      few-step : (step : SparseChild) → IsRefined test t step → has_many_faces channel predicate t.depth ≡ false
+      few-step step refined = le-ltb face_limit (present_faces channel.base predicate (suc t.depth)) (fine-step step refined).few
 
-      table-here : (table : Table) → IsUniformTable channel.base channel.scheme meeting k table → IsUniformTable channel.base channel.scheme meeting t.depth table
-      table-here table uniform = subst (λ n. IsUniformTable channel.base channel.scheme meeting n table) (sym is.deep) uniform
+      table-here : (table : Table) → IsUniformTable channel.base channel.scheme predicate k table → IsUniformTable channel.base channel.scheme predicate t.depth table
+      table-here table uniform = subst (λ n. IsUniformTable channel.base channel.scheme predicate n table) (sym is.deep) uniform
 
       module _ (from : Walked) (same : from.sparse ≡ t) (child : ChildTopology) (next : Walked) (old new : ℕ) (made : IsMade test from child next old new) where
         step-of : IsRefined test t made.step
@@ -108,22 +108,22 @@ module _ (test : FaceFacts → Bool) (channel : Channel) (depth : ℕ) where
               → steps ≤ between → between ≤ steps + length (places_for test t) → taken ≡ between → IsHeld start (k + 1) after taken
           held-next after between taken carried later most e = record {
             table_is =
-                subst (λ n. IsUniformTable channel.base channel.scheme meeting n after) (ap suc is.deep ∙ sym (plus-one k))
-                (next-table channel meeting (level_of t) is.stands.over sparse-within test agrees table (table-here table held.table_is) child.origins origins-are after carried);
+                subst (λ n. IsUniformTable channel.base channel.scheme predicate n after) (ap suc is.deep ∙ sym (plus-one k))
+                (next-table channel predicate (level_of t) is.stands.over sparse-within test agrees table (table-here table held.table_is) child.origins origins-are after carried);
             none =
-                none-more (HasNone channel meeting) k held.none
-                (subst (HasNone channel meeting) is.deep
-                (next-none channel meeting (level_of t) is.stands.over sparse-within test agrees table (table-here table held.table_is) child.origins origins-are (few-step made.step step-of) (fine-step made.step step-of).fine after carried));
+                none-more (HasNone channel predicate) k held.none
+                (subst (HasNone channel predicate) is.deep
+                (next-none channel predicate (level_of t) is.stands.over sparse-within test agrees table (table-here table held.table_is) child.origins origins-are (few-step made.step step-of) (fine-step made.step step-of).fine after carried));
             made = carried.made;
             fits = carried.fits;
             later = omega (arith, held.later, later, e);
-            most = omega (arith, held.most, most, e, levels.next-counted test channel.base depth k t is within, sum-more (present_faces channel.base meeting) k);
+            most = omega (arith, held.most, most, e, levels.next-counted test channel.base depth k t is within, sum-more (present_faces channel.base predicate) k);
           }
 
-          fault-next : (why : Cause) → IsTableCause (max channel.greatest channel.common) t.topology.level channel.scheme child.origins table why → IsSparseCause channel meeting depth (k + 1) why
+          fault-next : (why : Cause) → IsTableCause (max channel.greatest channel.common) t.topology.level channel.scheme child.origins table why → IsSparseCause channel predicate depth (k + 1) why
           fault-next why fails =
-              subst (λ n. IsSparseCause channel meeting depth (n + 1) why) is.deep
-              (next-fault channel meeting (level_of t) is.stands.over sparse-within test agrees table (table-here table held.table_is) child.origins origins-are
+              subst (λ n. IsSparseCause channel predicate depth (n + 1) why) is.deep
+              (next-fault channel predicate (level_of t) is.stands.over sparse-within test agrees table (table-here table held.table_is) child.origins origins-are
               (few-step made.step step-of) (fine-step made.step step-of).fine depth (omega (arith, within, is.deep)) (λ j h. held.none j (omega (arith, h, is.deep))) why fails)
 
   module _ (most : ℕ) (same : most ≡ max channel.greatest channel.common) (scheme : Scheme) (by : scheme ≡ channel.scheme) (start : Place Walked Table (KeptSoFar Table)) where
@@ -149,7 +149,7 @@ module _ (test : FaceFacts → Bool) (channel : Channel) (depth : ℕ) where
     abbrev pub IsAt : ℕ → Place Walked Table (KeptSoFar Table) → Type 0
     IsAt k end = keeping.IsAt Holds test channel.base depth Follow follows k end
 
-    pub at-start : levels.IsReached test channel.base depth 0 start.reached.level.sparse → IsUniformTable channel.base channel.scheme (meeting_to test channel.base depth) 0 start.reached.carried → IsTable start.reached.carried
+    pub at-start : levels.IsReached test channel.base depth 0 start.reached.level.sparse → IsUniformTable channel.base channel.scheme (predicate_to test channel.base depth) 0 start.reached.carried → IsTable start.reached.carried
         → greatest_of start.reached.carried * max channel.greatest channel.common ≤ number_bound → start.visitor ≡ kept_so_far [] None → IsAt 0 start
     at-start reached table made fits none = keeping.at-start Holds test channel.base depth Follow follows start reached (record {
       table_is = table;
@@ -171,11 +171,11 @@ module _ (test : FaceFacts → Bool) (channel : Channel) (depth : ℕ) where
           let there = walked-to depth end (omega arith) walked in
           let all = keeping.all-kept Holds test channel.base depth Follow follows end kept there is in
           record {
-            fine = λ track. no-faults channel meeting track depth there.holds.none;
+            fine = λ track. no-faults channel predicate track depth there.holds.none;
             count = all.count_is;
             each = λ k d h.
                 let one = all.each k d (omega (arith, h)) in
-                composed-level channel meeting one.sparse k (get_or kept k d) one.reached.deep one.reached.stands.over (is-sparse k one.sparse one.reached h) one.written
+                composed-level channel predicate one.sparse k (get_or kept k d) one.reached.deep one.reached.stands.over (is-sparse k one.sparse one.reached h) one.written
                 one.holds.table_is one.holds.made one.holds.fits;
           }
 
@@ -183,19 +183,19 @@ module _ (test : FaceFacts → Bool) (channel : Channel) (depth : ℕ) where
       all-steps end walked = let holds = (walked-to depth end (omega arith) walked).holds in record { most = holds.most; later = holds.later }
 
       bound : (k new : ℕ) (last : Place Walked Table (KeptSoFar Table)) → k < depth → IsAt k last → new ≤ last.steps + length (places_for test last.reached.level.sparse)
-          → new ≤ start.steps + present_to channel.base meeting depth
+          → new ≤ start.steps + present_to channel.base predicate depth
       bound k new last within is h =
           let count = levels.next-counted test channel.base depth k last.reached.level.sparse is.reached within in
-          omega (arith, is.holds.most, h, count, sum-more (present_faces channel.base meeting) k, sum-within (present_faces channel.base meeting) (k + 1) depth (omega (arith, within)))
+          omega (arith, is.holds.most, h, count, sum-more (present_faces channel.base predicate) k, sum-within (present_faces channel.base predicate) (k + 1) depth (omega (arith, within)))
 
       abbrev Stopped : ℕ → Cause → ℕ → Type 0
-      Stopped number why new = IsSparseCause channel meeting depth number why × AreComposeSteps test channel depth start.steps new
+      Stopped number why new = IsSparseCause channel predicate depth number why × AreComposeSteps test channel depth start.steps new
 
       stopped-at : (k : ℕ) (last : Place Walked Table (KeptSoFar Table)) (new : ℕ) → k < depth → IsAt k last → (why : Cause)
           → IsCause topology_of (IsMade test) (IsRefused test) Follow Fail last.reached why last.steps new → Stopped (k + 1) why new
       stopped-at k last new within is why (inl refused) =
           let t = last.reached.level.sparse in (
-            refused-first channel meeting k depth within is.holds.none why (subst (λ n. HasCause channel.base meeting n why) is.reached.deep (cause-here test t (as_sparse k t is.reached within) why refused.is)),
+            refused-first channel predicate k depth within is.holds.none why (subst (λ n. HasCause channel.base predicate n why) is.reached.deep (cause-here test t (as_sparse k t is.reached within) why refused.is)),
             record { most = bound k new last within is refused.steps.most; later = omega (arith, is.holds.later, refused.steps.later) },
           )
       stopped-at k last new within is why (inr (inl left)) =
@@ -209,7 +209,7 @@ module _ (test : FaceFacts → Bool) (channel : Channel) (depth : ℕ) where
             },
           )
       stopped-at k last new within is why (inr (inr without)) = (
-        subst (IsSparseCause channel meeting depth (k + 1)) (sym without.memory) tt,
+        subst (IsSparseCause channel predicate depth (k + 1)) (sym without.memory) tt,
         record {
           most = bound k new last within is (omega (arith, without.made.made.steps.most, without.made.followed.1));
           later = omega (arith, is.holds.later, without.made.made.steps.later, without.made.followed.1);

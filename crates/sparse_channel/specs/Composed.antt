@@ -6,7 +6,7 @@ use Rattle.subdiv_model.specs.Refined.{refined_values, control_values}
 use Rattle.subdiv_model.specs.Feature.{FaceFacts}
 use Rattle.subdiv_model.specs.Fault.{Track}
 use Rattle.subdiv_model.specs.Channel.{Channel, Tables, number_bound, denominators_after}
-use Rattle.subdiv_model.specs.Sparse.{Meeting}
+use Rattle.subdiv_model.specs.Sparse.{FacePredicate}
 use Rattle.subdiv_model.specs.SparseFaults.{present_entries, sparse_faults}
 use Rattle.subdiv_model.specs.SparseText.{WrittenLevel, written_level, written_points}
 use Rattle.sparse_laws.specs.Written.{used_points}
@@ -15,7 +15,7 @@ use Rattle.sparse_walk.specs.declared.kept.KeptLevel.{KeptLevel}
 use Rattle.stencil_apply.specs.Table.{Table, IsTable, row_at, entries_of, greatest_of}
 use Rattle.stencil_factory.specs.Rows.{dens_of, row_values, AreSameValues}
 use Rattle.channel_refine.specs.Evaluated.{CanEvaluate, evaluated}
-use Rattle.sparse_channel.specs.Refined.{SparseRows, meeting_of, present_to}
+use Rattle.sparse_channel.specs.Refined.{SparseRows, predicate_of, present_to}
 
 -- the rows of some points as a table
 abbrev pub rows_at : Table → List ℕ → Table
@@ -34,16 +34,16 @@ HasRows table order = list_all (λ row. nat_lt row (length table.rows)) order �
 -- The level contains the faces that the definitions write. Its table has a row for each written point, over the point's common
 -- denominator in the whole level. The row gives the point's value there for any controls. The greatest denominator is within the bound
 -- of the channel's numbers.
-pub record IsComposedLevel (channel : Channel) (meeting : Meeting) (k : ℕ) (order : List ℕ) (faces : WrittenLevel) (table : Table) : Type 0 where
-  pub written : faces ≡ written_level channel.base meeting k
+pub record IsComposedLevel (channel : Channel) (predicate : FacePredicate) (k : ℕ) (order : List ℕ) (faces : WrittenLevel) (table : Table) : Type 0 where
+  pub written : faces ≡ written_level channel.base predicate k
   pub made : IsTable table
   pub has_rows : HasRows table order
   pub controls : table.controls ≡ channel.base.point_count
-  pub dens : dens_of (rows_at table order) ≡ items_at (written_points channel.base meeting k) 1 (denominators_after channel k)
+  pub dens : dens_of (rows_at table order) ≡ items_at (written_points channel.base predicate k) 1 (denominators_after channel k)
   pub values : (numbers : List ℤ) → length numbers ≡ channel.base.point_count
-      → AreSameValues (items_at (written_points channel.base meeting k) (whole_value (pos 0)) (refined_values channel.base channel.scheme (control_values numbers) k))
+      → AreSameValues (items_at (written_points channel.base predicate k) (whole_value (pos 0)) (refined_values channel.base channel.scheme (control_values numbers) k))
       (row_values (rows_at table order) numbers)
-  pub entries : entries_of (rows_at table order).rows ≤ present_entries channel meeting k
+  pub entries : entries_of (rows_at table order).rows ≤ present_entries channel predicate k
   pub fits : greatest_of table * max channel.greatest channel.common ≤ number_bound
 
 -- the order of a kept level, given that of the first
@@ -52,14 +52,14 @@ kept_order first k level = order_at first k level.carried
 
 -- no level up to the depth has a fault, and the list has each level from 0 on
 pub record AreComposedTo (test : FaceFacts → Bool) (channel : Channel) (depth : ℕ) (levels : List (KeptLevel Table)) : Type 0 where
-  pub fine : (track : Track) → sparse_faults Tables channel (meeting_of test channel depth) track depth ≡ []
+  pub fine : (track : Track) → sparse_faults Tables channel (predicate_of test channel depth) track depth ≡ []
   pub count : length levels ≡ depth + 1
   pub each : (k : ℕ) (d : KeptLevel Table) → k ≤ depth
-      → IsComposedLevel channel (meeting_of test channel depth) k (kept_order (used_points channel.base) k (get_or levels k d)) (get_or levels k d).faces (get_or levels k d).carried
+      → IsComposedLevel channel (predicate_of test channel depth) k (kept_order (used_points channel.base) k (get_or levels k d)) (get_or levels k d).faces (get_or levels k d).carried
 
 -- the call takes at most one step for each face of the levels after the first
 pub record AreComposeSteps (test : FaceFacts → Bool) (channel : Channel) (depth old new : ℕ) : Type 0 where
-  pub most : new ≤ old + present_to channel.base (meeting_of test channel depth) depth
+  pub most : new ≤ old + present_to channel.base (predicate_of test channel depth) depth
   pub later : old ≤ new
 
 -- a level whose table can be evaluated at the written points

@@ -10,7 +10,7 @@ use Rattle.subdiv_model.specs.Feature.{FaceFacts}
 use Rattle.subdiv_model.specs.Fault as model
 use Rattle.subdiv_model.specs.Fault.{Fault, Track}
 use Rattle.subdiv_model.specs.Channel.{Channel, Tables, number_bound, denominators_after}
-use Rattle.subdiv_model.specs.Sparse.{Meeting, meeting_to}
+use Rattle.subdiv_model.specs.Sparse.{FacePredicate, predicate_to}
 use Rattle.subdiv_model.specs.SparseFaults.{present_entries, present_faces, sparse_faults}
 use Rattle.subdiv_model.specs.SparseText.{WrittenLevel, written_level, written_points}
 use Rattle.sparse_values.specs.Uniform.{items_at}
@@ -27,59 +27,59 @@ pub record SparseRows : Type 0 where
   pub rows : List Row
 
 -- the faces to refine, by a test and a depth
-abbrev pub meeting_of : (FaceFacts → Bool) → Channel → ℕ → Meeting
-meeting_of test channel depth = meeting_to test channel.base depth
+abbrev pub predicate_of : (FaceFacts → Bool) → Channel → ℕ → FacePredicate
+predicate_of test channel depth = predicate_to test channel.base depth
 
 -- The level contains the faces that the definitions write. Each column of its rows contains the values of the whole level at the written
 -- points, over the common denominators there.
-pub record IsSparseLevel (channel : Channel) (meeting : Meeting) (controls : List Row) (k : ℕ) (level : SparseRows) : Type 0 where
-  pub written : level.written ≡ written_level channel.base meeting k
-  pub dens : dens_of level.rows ≡ items_at (written_points channel.base meeting k) 1 (denominators_after channel k)
+pub record IsSparseLevel (channel : Channel) (predicate : FacePredicate) (controls : List Row) (k : ℕ) (level : SparseRows) : Type 0 where
+  pub written : level.written ≡ written_level channel.base predicate k
+  pub dens : dens_of level.rows ≡ items_at (written_points channel.base predicate k) 1 (denominators_after channel k)
   pub values : (column : ℕ) → StandFor level.rows column
-      (items_at (written_points channel.base meeting k) (whole_value (pos 0)) (refined_values channel.base channel.scheme (control_values (column_of column controls)) k))
+      (items_at (written_points channel.base predicate k) (whole_value (pos 0)) (refined_values channel.base channel.scheme (control_values (column_of column controls)) k))
   pub within : AreWithin channel.greatest level.rows
   pub short : All (λ row. row.den * max channel.greatest channel.common ≤ number_bound) level.rows
   pub positive : All (λ row. 0 < row.den) level.rows
   pub alike : All (λ row. length row.numbers ≡ length (row_at controls 0).numbers) level.rows
 
 -- no level up to the depth has a fault, and the list has each level from 0 on
-pub record AreSparseLevels (channel : Channel) (meeting : Meeting) (controls : List Row) (depth : ℕ) (levels : List SparseRows) : Type 0 where
-  pub fine : (track : Track) → sparse_faults Tables channel meeting track depth ≡ []
+pub record AreSparseLevels (channel : Channel) (predicate : FacePredicate) (controls : List Row) (depth : ℕ) (levels : List SparseRows) : Type 0 where
+  pub fine : (track : Track) → sparse_faults Tables channel predicate track depth ≡ []
   pub count : length levels ≡ depth + 1
-  pub each : (k : ℕ) → k ≤ depth → IsSparseLevel channel meeting controls k (get_or levels k (record { written = record { point_count = 0; faces = [] }; rows = [] }))
+  pub each : (k : ℕ) → k ≤ depth → IsSparseLevel channel predicate controls k (get_or levels k (record { written = record { point_count = 0; faces = [] }; rows = [] }))
 
 -- the first fault of the sparse levels up to a depth, for any track
-abbrev pub IsFirstSparse : Channel → Meeting → ℕ → (Track → Fault) → Type 0
-IsFirstSparse channel meeting depth fault = (track : Track) → first_of (sparse_faults Tables channel meeting track depth) ≡ Some (fault track)
+abbrev pub IsFirstSparse : Channel → FacePredicate → ℕ → (Track → Fault) → Type 0
+IsFirstSparse channel predicate depth fault = (track : Track) → first_of (sparse_faults Tables channel predicate track depth) ≡ Some (fault track)
 
 -- the level with this number is the first that is not reached, and the cause fits; memory may run out at any level
-abbrev pub IsSparseCause : Channel → Meeting → ℕ → ℕ → Cause → Type 0
-IsSparseCause channel meeting depth level (TooManyFaces count) = IsFirstSparse channel meeting depth (λ track. model.TooLarge (model.LevelFaces level count))
-IsSparseCause channel meeting depth level (Overflow kind) = IsFirstSparse channel meeting depth (λ track. model.Overflow track level (kind_of kind))
-IsSparseCause channel meeting depth level TooManyEntries = IsFirstSparse channel meeting depth (λ track. model.TooLarge (model.Entries level))
-IsSparseCause channel meeting depth level Memory = Unit {0}
+abbrev pub IsSparseCause : Channel → FacePredicate → ℕ → ℕ → Cause → Type 0
+IsSparseCause channel predicate depth level (TooManyFaces count) = IsFirstSparse channel predicate depth (λ track. model.TooLarge (model.LevelFaces level count))
+IsSparseCause channel predicate depth level (Overflow kind) = IsFirstSparse channel predicate depth (λ track. model.Overflow track level (kind_of kind))
+IsSparseCause channel predicate depth level TooManyEntries = IsFirstSparse channel predicate depth (λ track. model.TooLarge (model.Entries level))
+IsSparseCause channel predicate depth level Memory = Unit {0}
 
 -- the fault is the first of the sparse levels up to a depth
-abbrev pub IsSparseFault : Channel → Meeting → ℕ → WalkFault → Type 0
-IsSparseFault channel meeting depth fault = IsSparseCause channel meeting depth fault.level fault.cause
+abbrev pub IsSparseFault : Channel → FacePredicate → ℕ → WalkFault → Type 0
+IsSparseFault channel predicate depth fault = IsSparseCause channel predicate depth fault.level fault.cause
 
 -- the sparse levels for the predicate of a test
 abbrev pub AreSparseTo : (FaceFacts → Bool) → Channel → List Row → ℕ → List SparseRows → Type 0
-AreSparseTo test channel controls depth levels = AreSparseLevels channel (meeting_of test channel depth) controls depth levels
+AreSparseTo test channel controls depth levels = AreSparseLevels channel (predicate_of test channel depth) controls depth levels
 
 -- the fault is the first of the sparse levels for the predicate of a test
 abbrev pub IsSparseFaultTo : (FaceFacts → Bool) → Channel → ℕ → WalkFault → Type 0
-IsSparseFaultTo test channel depth fault = IsSparseFault channel (meeting_of test channel depth) depth fault
+IsSparseFaultTo test channel depth fault = IsSparseFault channel (predicate_of test channel depth) depth fault
 
 -- the number of present faces of the levels from 1 to a depth
-abbrev pub present_to : Level → Meeting → ℕ → ℕ
-present_to base meeting depth = sum_by (present_faces base meeting) (range_with_len 1 depth)
+abbrev pub present_to : Level → FacePredicate → ℕ → ℕ
+present_to base predicate depth = sum_by (present_faces base predicate) (range_with_len 1 depth)
 
 -- the number of entries of the tables of the present points, from level 0 to a depth
-abbrev pub entries_to : Channel → Meeting → ℕ → ℕ
-entries_to channel meeting depth = sum_by (present_entries channel meeting) (range_with_len 0 (depth + 1))
+abbrev pub entries_to : Channel → FacePredicate → ℕ → ℕ
+entries_to channel predicate depth = sum_by (present_entries channel predicate) (range_with_len 0 (depth + 1))
 
 -- the call takes at most one step for each present face after level 0 and one for each entry of the tables of present points
 pub record AreSparseSteps (test : FaceFacts → Bool) (channel : Channel) (depth old new : ℕ) : Type 0 where
-  pub most : new ≤ old + present_to channel.base (meeting_of test channel depth) depth + entries_to channel (meeting_of test channel depth) depth
+  pub most : new ≤ old + present_to channel.base (predicate_of test channel depth) depth + entries_to channel (predicate_of test channel depth) depth
   pub later : old ≤ new

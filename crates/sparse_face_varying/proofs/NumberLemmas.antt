@@ -7,7 +7,7 @@ use Rattle.std.proofs.lemmas.List.Elements.{filter-append}
 use Rattle.std.proofs.lemmas.List.FromFn.{fill_by_all, map-range_with_len_more}
 use Rattle.subdiv_model.specs.Level.{Level}
 use Rattle.subdiv_model.specs.Feature.{FaceFacts}
-use Rattle.subdiv_model.specs.Sparse.{Meeting, selected}
+use Rattle.subdiv_model.specs.Sparse.{FacePredicate, selected}
 use Rattle.subdiv_model.specs.SparseText.{WrittenFace, WrittenLevel, LeafFace, written_level}
 use Rattle.subdiv_model.specs.SparseTexture.{selected_to}
 use Rattle.part_laws.specs.Parts.{face_in}
@@ -21,7 +21,7 @@ use Rattle.sparse_refiner.specs.Refined.{SparseOf}
 use Rattle.sparse_faces.specs.View.{face_at}
 use Rattle.sparse_faces.specs.declared.values.SparseValues.{SparseValues}
 use Rattle.sparse_texture_laws.specs.Selection.{is_selected_kind, selected_numbers}
-use Rattle.sparse_texture_laws.proofs.MeetingLemmas.{written-selected}
+use Rattle.sparse_texture_laws.proofs.PredicateLemmas.{written-selected}
 use Rattle.sparse_face_varying.specs.Chosen.{AreMarkedBy, AreWritten}
 
 -- the values of those of the first faces that pass
@@ -46,11 +46,11 @@ marked-picked numbers marks =
     ∙ places-of-range (λ i. get_or marks i false) (λ mark. mark) 0 (length marks)))
 
 -- the marks of a step are those of the selected faces
-pub marks-selected : (test : FaceFacts → Bool) (t : SparseTopology) (step : SparseChild) (numbers : List ℕ) (of : SparseOf test t) → AreMarkedBy test t step → numbers ≡ map (face_in t.numbers) (marked step.selected) → numbers ≡ selected of.base of.meeting t.depth
+pub marks-selected : (test : FaceFacts → Bool) (t : SparseTopology) (step : SparseChild) (numbers : List ℕ) (of : SparseOf test t) → AreMarkedBy test t step → numbers ≡ map (face_in t.numbers) (marked step.selected) → numbers ≡ selected of.base of.predicate t.depth
 marks-selected test t step numbers of are is =
     is ∙ ap (λ marks. map (face_in t.numbers) (marked marks)) are
     ∙ ap (map (face_in t.numbers)) (places-of-range (is_selected_in test (level_of t)) (λ mark. mark) 0 (length t.topology.level.polygons))
-    ∙ selected-same (record { base = of.base; meeting = of.meeting; sparse = level_of t; over = of.over; is = of.is }) (record { test = test; agrees = of.agrees })
+    ∙ selected-same (record { base = of.base; predicate = of.predicate; sparse = level_of t; over = of.over; is = of.is }) (record { test = test; agrees = of.agrees })
 
 -- the numbers of the selected faces of a written level
 abbrev pub face_test : WrittenLevel → ℕ → Bool
@@ -72,20 +72,20 @@ written-picked level =
 abbrev pub each_of : {P : Type 0} → List (SparseValues P) → List (List ℕ)
 each_of levels = map (λ level. selected_numbers level.faces) levels
 
-from-level : {P : Type 0} (base : Level) (meeting : Meeting) (k n : ℕ) (levels : List (SparseValues P)) → n ≤ length levels → ((j : ℕ) (d : SparseValues P) → j < n → (get_or levels j d).faces ≡ written_level base meeting (k + j)) → each_of (take n levels) ≡ map (selected base meeting) (range_with_len k n)
-from-level base meeting k zero levels h are = refl
-from-level base meeting k (suc n) [] h are = absurd (omega arith)
-from-level base meeting k (suc n) (level ∷ levels) h are =
-    let first : selected_numbers level.faces ≡ selected base meeting k =
-    ap selected_numbers (are 0 level (omega arith)) ∙ written-selected base meeting (k + 0) ∙ ap (selected base meeting) (let e : k + 0 ≡ k = omega arith in e) in
+from-level : {P : Type 0} (base : Level) (predicate : FacePredicate) (k n : ℕ) (levels : List (SparseValues P)) → n ≤ length levels → ((j : ℕ) (d : SparseValues P) → j < n → (get_or levels j d).faces ≡ written_level base predicate (k + j)) → each_of (take n levels) ≡ map (selected base predicate) (range_with_len k n)
+from-level base predicate k zero levels h are = refl
+from-level base predicate k (suc n) [] h are = absurd (omega arith)
+from-level base predicate k (suc n) (level ∷ levels) h are =
+    let first : selected_numbers level.faces ≡ selected base predicate k =
+    ap selected_numbers (are 0 level (omega arith)) ∙ written-selected base predicate (k + 0) ∙ ap (selected base predicate) (let e : k + 0 ≡ k = omega arith in e) in
     ap (λ ns. ns ∷ each_of (take n levels)) first
-    ∙ ap (λ l. selected base meeting k ∷ l) (from-level base meeting (k + 1) n levels (omega arith) (λ j d less. are (suc j) d (omega arith) ∙ ap (written_level base meeting) (let e : k + suc j ≡ k + 1 + j = omega arith in e)))
+    ∙ ap (λ l. selected base predicate k ∷ l) (from-level base predicate (k + 1) n levels (omega arith) (λ j d less. are (suc j) d (omega arith) ∙ ap (written_level base predicate) (let e : k + suc j ≡ k + 1 + j = omega arith in e)))
 
-pub levels-selected : {P : Type 0} (levels : List (SparseValues P)) (base : Level) (meeting : Meeting) (depth : ℕ) → length levels ≡ depth + 1 → AreWritten levels base meeting depth → each_of (take depth levels) ≡ selected_to base meeting depth
-levels-selected levels base meeting depth long are =
-    from-level base meeting 0 depth levels (omega (arith, long)) (λ j d less. are j d (omega (arith, less)) ∙ ap (written_level base meeting) (let e : j ≡ 0 + j = omega arith in e))
+pub levels-selected : {P : Type 0} (levels : List (SparseValues P)) (base : Level) (predicate : FacePredicate) (depth : ℕ) → length levels ≡ depth + 1 → AreWritten levels base predicate depth → each_of (take depth levels) ≡ selected_to base predicate depth
+levels-selected levels base predicate depth long are =
+    from-level base predicate 0 depth levels (omega (arith, long)) (λ j d less. are j d (omega (arith, less)) ∙ ap (written_level base predicate) (let e : j ≡ 0 + j = omega arith in e))
 
 -- the same for a result
-pub levels-found : {P E : Type 0} (levels : List (SparseValues P)) (base : Level) (meeting : Meeting) (depth : ℕ) → length levels ≡ depth + 1 → AreWritten levels base meeting depth → (r : Result (Vec (Vec ℕ Global) Global) E) → IfOk r (λ numbers. map (λ n. n.items) numbers.items ≡ each_of (take depth levels)) → IfOk r (λ numbers. map (λ n. n.items) numbers.items ≡ selected_to base meeting depth)
-levels-found levels base meeting depth long are (Ok numbers) h = h ∙ levels-selected levels base meeting depth long are
-levels-found levels base meeting depth long are (Err fault) h = tt
+pub levels-found : {P E : Type 0} (levels : List (SparseValues P)) (base : Level) (predicate : FacePredicate) (depth : ℕ) → length levels ≡ depth + 1 → AreWritten levels base predicate depth → (r : Result (Vec (Vec ℕ Global) Global) E) → IfOk r (λ numbers. map (λ n. n.items) numbers.items ≡ each_of (take depth levels)) → IfOk r (λ numbers. map (λ n. n.items) numbers.items ≡ selected_to base predicate depth)
+levels-found levels base predicate depth long are (Ok numbers) h = h ∙ levels-selected levels base predicate depth long are
+levels-found levels base predicate depth long are (Err fault) h = tt

@@ -8,11 +8,11 @@ use Rattle.std.proofs.lemmas.List.Kept.{IsStrictlyIncreasing-filter}
 use Rattle.subdiv_model.specs.Polygons.{is_among}
 use Rattle.subdiv_model.specs.Level.{Level, is_hole}
 use Rattle.subdiv_model.specs.Child.{refined_level}
-use Rattle.subdiv_model.specs.Sparse.{meeting_to}
+use Rattle.subdiv_model.specs.Sparse.{predicate_to}
 use Rattle.part_laws.proofs.PlaceLemmas.{increasing}
 use Rattle.sparse_laws.proofs.InnerLemmas.{range-ascends}
 use Rattle.sparse_texture_laws.specs.Selection.{IsSelection, is_chosen}
-use Rattle.sparse_texture_laws.proofs.MeetingLemmas.{selection-meeting}
+use Rattle.sparse_texture_laws.proofs.PredicateLemmas.{selection-predicate}
 use Rattle.sparse_face_varying.specs.Chosen.{AreAscending, chosen_by, chosen_in}
 use Rattle.sparse_face_varying.specs.declared.chosen.Chosen.{Chosen}
 use Rattle.sparse_face_varying.specs.declared.chosen.ChosenLevels.{ChosenLevels}
@@ -37,7 +37,7 @@ rule-test {F} rule select numbers e = ap (λ (kept : F × Option Chosen). chosen
 abbrev pub numbers_of : ChosenLevels → List (List ℕ)
 numbers_of test = map (λ n. n.items) test.levels.now
 
-pub rule-meeting : {F : Type 0} (rule : F × Option ChosenLevels) (select : F) (levels : Bor (List (Vec ℕ Global))) (base : Level) (depth : ℕ) → rule ≡ (select, Some (record { levels = levels })) → IsSelection base depth (map (λ n. n.items) levels.now) → meeting_to (chosen_in (option_map numbers_of rule.1)) base depth ≡ map (λ n. n.items) levels.now
-rule-meeting {F} rule select levels base depth e is =
-    ap (λ (kept : F × Option ChosenLevels). meeting_to (chosen_in (option_map numbers_of kept.1)) base depth) e
-    ∙ selection-meeting base depth (map (λ n. n.items) levels.now) is
+pub rule-predicate : {F : Type 0} (rule : F × Option ChosenLevels) (select : F) (levels : Bor (List (Vec ℕ Global))) (base : Level) (depth : ℕ) → rule ≡ (select, Some (record { levels = levels })) → IsSelection base depth (map (λ n. n.items) levels.now) → predicate_to (chosen_in (option_map numbers_of rule.1)) base depth ≡ map (λ n. n.items) levels.now
+rule-predicate {F} rule select levels base depth e is =
+    ap (λ (kept : F × Option ChosenLevels). predicate_to (chosen_in (option_map numbers_of kept.1)) base depth) e
+    ∙ selection-predicate base depth (map (λ n. n.items) levels.now) is

@@ -4,7 +4,7 @@ use Rattle.std.specs.List.{All, range_with_len}
 use Rattle.std.specs.List.Sorted.{IsStrictlyIncreasing}
 use Rattle.subdiv_model.specs.Level.{Level}
 use Rattle.subdiv_model.specs.Feature.{FaceFacts}
-use Rattle.subdiv_model.specs.Sparse.{Meeting}
+use Rattle.subdiv_model.specs.Sparse.{FacePredicate}
 use Rattle.subdiv_model.specs.SparseText.{written_level}
 use Rattle.sparse_laws.specs.Selected.{is_selected_in}
 use Rattle.sparse_level.specs.View.{SparseTopology, SparseChild, level_of}
@@ -30,5 +30,5 @@ abbrev pub AreAscending : List (List ℕ) → Type 0
 AreAscending numbers = All IsStrictlyIncreasing numbers
 
 -- each level up to a depth is written as the definitions say
-abbrev pub AreWritten : {P : Type 0} → List (SparseValues P) → Level → Meeting → ℕ → Type 0
-AreWritten {P} levels base meeting depth = (k : ℕ) (d : SparseValues P) → k ≤ depth → (get_or levels k d).faces ≡ written_level base meeting k
+abbrev pub AreWritten : {P : Type 0} → List (SparseValues P) → Level → FacePredicate → ℕ → Type 0
+AreWritten {P} levels base predicate depth = (k : ℕ) (d : SparseValues P) → k ≤ depth → (get_or levels k d).faces ≡ written_level base predicate k

@@ -3,7 +3,7 @@
 ghost use Rattle.std.specs.Prelude.{◌≡◌, ◌+◌, Bool, ◌∷◌, ◌++◌, [], length, map, IfOk, OnOk, if◌then◌else◌};
 ghost use Rattle.subdiv_model.specs.Level.{Level};
 ghost use Rattle.subdiv_model.specs.Feature.{FaceFacts};
-ghost use Rattle.subdiv_model.specs.Sparse.{Meeting, selected};
+ghost use Rattle.subdiv_model.specs.Sparse.{FacePredicate, selected};
 ghost use Rattle.subdiv_model.specs.SparseTexture.{selected_to};
 ghost use Rattle.part_laws.specs.Parts.{face_in};
 ghost use Rattle.sparse_level.specs.Places.{marked};
@@ -38,7 +38,7 @@ pub fn selected_numbers(
     requires { length step.now.selected ≡ length sparse.now.topology.level.polygons }
     ensures marked { IfOk result (λ numbers. numbers.items ≡ map (face_in sparse.now.numbers) (marked step.now.selected)) }
     ensures selected { (test : FaceFacts → Bool) (of : SparseOf test sparse.now) → AreMarkedBy test sparse.now step.now
-        → IfOk result (λ made. made.items ≡ selected of.base of.meeting sparse.now.depth) }
+        → IfOk result (λ made. made.items ≡ selected of.base of.predicate sparse.now.depth) }
 {
     let mut numbers = Vec::new(alloc);
     for f in 0..sparse.level().faces() {
@@ -87,8 +87,8 @@ pub fn selected_levels<P>(
     depth: u32,
 ) -> Result<Vec<Vec<u64>>, Memory>
     requires { length levels.now ≡ depth + 1 }
-    ensures { (base : Level) (meeting : Meeting) → AreWritten levels.now base meeting depth
-        → IfOk result (λ numbers. map (λ n. n.items) numbers.items ≡ selected_to base meeting depth) }
+    ensures { (base : Level) (predicate : FacePredicate) → AreWritten levels.now base predicate depth
+        → IfOk result (λ numbers. map (λ n. n.items) numbers.items ≡ selected_to base predicate depth) }
 {
     each_selected(alloc, &levels[..depth as usize])
 }

@@ -8,7 +8,7 @@ ghost use Rattle.sparse_refiner.specs.Refined.{IsNextOf, IsRefined, IsRefusal, S
 ghost use Rattle.sparse_channel.specs.Refined.{IsSparseFault};
 ghost use Rattle.sparse_channel.specs.View.{AreValuesTo};
 ghost use Rattle.sparse_texture_laws.specs.Selection.{IsSelection, is_chosen};
-ghost use Rattle.sparse_face_varying.specs.Steps.{AreMeetingSteps};
+ghost use Rattle.sparse_face_varying.specs.Steps.{ArePredicateSteps};
 
 use crate::chosen::{Chosen, ChosenLevels, is_chosen, is_chosen_in};
 use channel_refine::BaseChannel;
@@ -72,7 +72,7 @@ pub fn refine_sparse_texture<P: Primvar<L>, L: Ledger>(
     ensures refined { MatchResult result
         (λ made. AreValuesTo P.numbers base (map (λ n. n.items) numbers.now) controls.now depth made.items)
         (IsSparseFault base (map (λ n. n.items) numbers.now) depth) }
-    ensures steps { AreMeetingSteps base (map (λ n. n.items) numbers.now) depth steps.old steps.new }
+    ensures steps { ArePredicateSteps base (map (λ n. n.items) numbers.now) depth steps.old steps.new }
 {
     let rule = SelectRule::with(ChosenLevels { levels: numbers }, |facts: &FaceFacts| {
         is_chosen_in(numbers, facts)

@@ -7,7 +7,7 @@ use Rattle.std.proofs.lemmas.List.FromFn.{length-range_with_len, get_or-range_wi
 use Rattle.subdiv_model.specs.Polygons.{Polygon, has_corner, is_among, is_over, polygon_at}
 use Rattle.subdiv_model.specs.Edges.{faces_of_point}
 use Rattle.subdiv_model.specs.Level.{Level}
-use Rattle.subdiv_model.specs.Sparse.{Meeting, is_whole}
+use Rattle.subdiv_model.specs.Sparse.{FacePredicate, is_whole}
 use Rattle.mesh_laws.proofs.ChildCornerLemmas.{corner-place, corner-point}
 use Rattle.mesh_laws.proofs.FanLemmas.{faces-among}
 use Rattle.level_laws.proofs.PlainLemmas.{map-constant}
@@ -36,7 +36,7 @@ all-set test count each =
     ap (λ n. replicate n true) (sym (length-range_with_len 0 count))
     ∙ sym (map-constant (is_among (range_with_len 0 count)) test true each (range_with_len 0 count) (all-own (range_with_len 0 count)))
 
-module _ (base : Level) (meeting : Meeting) (over : is_over base.point_count base.polygons ≡ true) where
+module _ (base : Level) (predicate : FacePredicate) (over : is_over base.point_count base.polygons ≡ true) where
   corner-below : (f p : ℕ) → has_corner p (polygon_at base.polygons f) ≡ true → p < base.point_count
   corner-below f p there = ltb-true p base.point_count (corner-point base.point_count base.polygons f p over there)
 
@@ -45,13 +45,13 @@ module _ (base : Level) (meeting : Meeting) (over : is_over base.point_count bas
       let found = corner-of base.polygons p h in
       omega (arith, get_or-range_with_len 0 base.point_count p 0 (corner-below found.0 p found.2))
 
-  pub base-sparse : IsSparse base meeting (whole_base base)
+  pub base-sparse : IsSparse base predicate (whole_base base)
   base-sparse = record {
     numbers = refl;
     points = sym (length-range_with_len 0 base.point_count);
     over = over;
     part = part-renamed (λ p. p) (name_in (range_with_len 0 base.point_count)) (range_with_len 0 (length base.polygons)) base base name-self (self-level base);
     inner = all-set (is_among (range_with_len 0 (length base.polygons))) (length base.polygons) (λ n h. h);
-    complete = all-set (is_whole base meeting 0) base.point_count (λ v h. faces-own base.polygons v);
+    complete = all-set (is_whole base predicate 0) base.point_count (λ v h. faces-own base.polygons v);
     inside = λ f p mark there. get_or-replicate base.point_count p true false (corner-below f p there);
   }

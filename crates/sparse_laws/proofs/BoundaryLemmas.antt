@@ -16,7 +16,7 @@ use Rattle.mask_laws.proofs.BoundaryLemmas.{is-infinite, sharp-at, sharp-levels}
 use Rattle.part_laws.specs.Parts.{renamed}
 use Rattle.part_laws.proofs.PartLemmas.{edge-ends, same-boundary, whole-along}
 use Rattle.sparse_laws.specs.SparseLevels.{name_in}
-use Rattle.sparse_laws.specs.Laws.{Kept, HasSharpBoundary}
+use Rattle.sparse_laws.specs.Laws.{SparseRefinement, HasSharpBoundary}
 use Rattle.sparse_laws.proofs.FactLemmas.{end-named}
 use Rattle.sparse_laws.proofs.SelectedLemmas.{complete-whole, marked-below}
 
@@ -46,10 +46,10 @@ own-place (edge ∷ edges) (suc e) inside once = go (same_edge item edge) refl (
 own-number : (polygons : List Polygon) (e : ℕ) → e < length (edges_of polygons) → edge_number polygons (get_or (edges_of polygons) e (0, 0)) ≡ e
 own-number polygons e inside = own-place (edges_of polygons) e inside (first_named-once (get_or (edges_of polygons) e (0, 0)) (all_sides polygons))
 
-pub sharp-at-complete : (kept : Kept) (e v : ℕ) → HasSharpBoundary kept.base → get_or kept.sparse.complete v false ≡ true → e < length (edges_of kept.sparse.level.polygons) → has_end v (get_or (edges_of kept.sparse.level.polygons) e (0, 0)) ≡ true → is_boundary kept.sparse.level.polygons (get_or (edges_of kept.sparse.level.polygons) e (0, 0)) ≡ true → get_or kept.sparse.level.edge_sharpness e Smooth ≡ Infinite
+pub sharp-at-complete : (kept : SparseRefinement) (e v : ℕ) → HasSharpBoundary kept.base → get_or kept.sparse.complete v false ≡ true → e < length (edges_of kept.sparse.level.polygons) → has_end v (get_or (edges_of kept.sparse.level.polygons) e (0, 0)) ≡ true → is_boundary kept.sparse.level.polygons (get_or (edges_of kept.sparse.level.polygons) e (0, 0)) ≡ true → get_or kept.sparse.level.edge_sharpness e Smooth ≡ Infinite
 sharp-at-complete kept e v sharp mark inside ends on_boundary =
     let s = kept.sparse in
-    let name = name_in (present_points kept.base kept.meeting s.depth) in
+    let name = name_in (present_points kept.base kept.predicate s.depth) in
     let whole = refined_level kept.base s.depth in
     let part = kept.is.part in
     let edge : ℕ × ℕ = get_or (edges_of s.level.polygons) e (0, 0) in

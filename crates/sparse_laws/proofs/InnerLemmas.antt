@@ -8,7 +8,7 @@ use Rattle.subdiv_model.specs.Lists.{places_from}
 use Rattle.subdiv_model.specs.Polygons.{Polygon, has_corner, is_among, polygon_at}
 use Rattle.subdiv_model.specs.Level.{Level}
 use Rattle.subdiv_model.specs.Child.{refined_level}
-use Rattle.subdiv_model.specs.Sparse.{Meeting, corners_of, parents_of, is_on, selected, inner, present}
+use Rattle.subdiv_model.specs.Sparse.{FacePredicate, corners_of, parents_of, is_on, selected, inner, present}
 use Rattle.mesh_laws.proofs.FanLemmas.{number-any}
 use Rattle.level_laws.proofs.FaceLemmas.{child_polygons-length}
 use Rattle.part_laws.proofs.AscendingLemmas.{Ascends, lower}
@@ -63,11 +63,11 @@ all-aligned polygons faces k (polygon ∷ some) same =
     (all-aligned polygons faces (k + 1) some (λ i h. same (suc i) (omega (arith, h)) ∙ ap (polygon_at polygons) (let e : k + suc i ≡ k + 1 + i = omega arith in e)))
 
 -- each inner face is present
-pub inner-present : (base : Level) (meeting : Meeting) (depth n : ℕ) → is_among (inner base meeting depth) n ≡ true → is_among (present base meeting depth) n ≡ true
-inner-present base meeting zero n h = h
-inner-present base meeting (suc depth) n h =
+pub inner-present : (base : Level) (predicate : FacePredicate) (depth n : ℕ) → is_among (inner base predicate depth) n ≡ true → is_among (present base predicate depth) n ≡ true
+inner-present base predicate zero n h = h
+inner-present base predicate (suc depth) n h =
     let polygons = (refined_level base depth).polygons in
-    let faces = selected base meeting depth in
+    let faces = selected base predicate depth in
     places-aligned (is_among faces) (is_on polygons faces) 0 (parents_of polygons) (corners_of polygons)
     (all-aligned polygons faces 0 polygons (λ i inside. ap (polygon_at polygons) (let e : i ≡ 0 + i = omega arith in e))) n h
 
@@ -95,9 +95,9 @@ parents-length k (polygon ∷ polygons) =
     omega (arith, rest, both, length-replicate (length polygon) k, sum_by-cons length polygon polygons)
 
 -- inner faces ascend
-pub inner-ascends : (base : Level) (meeting : Meeting) (depth : ℕ) → Ascends 0 (0 + length (refined_level base depth).polygons) (inner base meeting depth)
-inner-ascends base meeting zero = range-ascends 0 (length base.polygons)
-inner-ascends base meeting (suc depth) =
+pub inner-ascends : (base : Level) (predicate : FacePredicate) (depth : ℕ) → Ascends 0 (0 + length (refined_level base depth).polygons) (inner base predicate depth)
+inner-ascends base predicate zero = range-ascends 0 (length base.polygons)
+inner-ascends base predicate (suc depth) =
     let level = refined_level base depth in
-    subst (λ n. Ascends 0 (0 + n) (inner base meeting (suc depth))) (parents-length 0 level.polygons ∙ sym (child_polygons-length level.point_count level.polygons))
-    (places-ascend (is_among (selected base meeting depth)) 0 (parents_of level.polygons))
+    subst (λ n. Ascends 0 (0 + n) (inner base predicate (suc depth))) (parents-length 0 level.polygons ∙ sym (child_polygons-length level.point_count level.polygons))
+    (places-ascend (is_among (selected base predicate depth)) 0 (parents_of level.polygons))

@@ -28,7 +28,7 @@ use Rattle.part_laws.proofs.NameLemmas.{name-old, name-face, name-edge}
 use Rattle.part_laws.proofs.ChildLemmas.{IsNew, child-places, kind, name-below}
 use Rattle.sparse_laws.specs.NextSparse.{corner_places, next_places, next_points, vertex_at}
 use Rattle.sparse_laws.specs.Selected.{OverflowsOn}
-use Rattle.sparse_laws.specs.Laws.{Kept, AgreeingTest, chosen_by}
+use Rattle.sparse_laws.specs.Laws.{SparseRefinement, AgreeingTest, chosen_by}
 use Rattle.sparse_laws.proofs.SelectedLemmas.{among-all}
 use Rattle.sparse_laws.proofs.NumberLemmas.{is_place}
 use Rattle.sparse_laws.proofs.CornerLemmas.{child, child-at-place, one-among, own-vertex, vertices-old}
@@ -38,7 +38,7 @@ use Rattle.sparse_laws.proofs.NextPartLemmas.{points-own, points-same}
 use Rattle.sparse_laws.proofs.NextSparseLemmas.{selection}
 
 -- the next level has as many faces as are present
-pub faces-counted : (kept : Kept) (by : AgreeingTest kept) → length (next_places kept.sparse.level.polygons (chosen_by by)) ≡ present_faces kept.base kept.meeting (suc kept.sparse.depth)
+pub faces-counted : (kept : SparseRefinement) (by : AgreeingTest kept) → length (next_places kept.sparse.level.polygons (chosen_by by)) ≡ present_faces kept.base kept.predicate (suc kept.sparse.depth)
 faces-counted kept by =
     let s = selection kept by in
     sym (length-map (next_places kept.sparse.level.polygons (chosen_by by)) (number_there s)) ∙ sym (ap length (numbers-same s))
@@ -205,12 +205,12 @@ module _ (s : Selection) where
 overflow-alike : (s : Selection) (w : ℕ) → is_corner s.part.polygons w ≡ true → IsWholeAt s.numbers s.whole.polygons (s.name w) → chaikin_overflows_at s.part w ≡ chaikin_overflows_at s.whole (s.name w)
 overflow-alike s w there all = same-chaikin s.name s.numbers s.part s.whole s.is w there all
 
-pub overflows-here : (kept : Kept) (by : AgreeingTest kept) (v : ℕ) → OverflowsOn kept.sparse.level (chosen_by by) v → list_any (chaikin_overflows_at (refined_level kept.base kept.sparse.depth)) (points_with_child kept.base kept.meeting (refined_level kept.base kept.sparse.depth).point_count kept.sparse.depth) ≡ true
+pub overflows-here : (kept : SparseRefinement) (by : AgreeingTest kept) (v : ℕ) → OverflowsOn kept.sparse.level (chosen_by by) v → list_any (chaikin_overflows_at (refined_level kept.base kept.sparse.depth)) (points_with_child kept.base kept.predicate (refined_level kept.base kept.sparse.depth).point_count kept.sparse.depth) ≡ true
 overflows-here kept by v o =
     let s = selection kept by in
     passes-here s (chaikin_overflows_at s.part) (chaikin_overflows_at s.whole) (overflow-alike s) v o.exists o.on o.overflows
 
-pub overflows-there : (kept : Kept) (by : AgreeingTest kept) → list_any (chaikin_overflows_at (refined_level kept.base kept.sparse.depth)) (points_with_child kept.base kept.meeting (refined_level kept.base kept.sparse.depth).point_count kept.sparse.depth) ≡ true → (v : ℕ) × OverflowsOn kept.sparse.level (chosen_by by) v
+pub overflows-there : (kept : SparseRefinement) (by : AgreeingTest kept) → list_any (chaikin_overflows_at (refined_level kept.base kept.sparse.depth)) (points_with_child kept.base kept.predicate (refined_level kept.base kept.sparse.depth).point_count kept.sparse.depth) ≡ true → (v : ℕ) × OverflowsOn kept.sparse.level (chosen_by by) v
 overflows-there kept by some =
     let s = selection kept by in
     let found = passes-there s (chaikin_overflows_at s.part) (chaikin_overflows_at s.whole) (overflow-alike s) some in

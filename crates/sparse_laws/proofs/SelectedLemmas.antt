@@ -9,7 +9,7 @@ use Rattle.subdiv_model.specs.Polygons.{is_among}
 use Rattle.subdiv_model.specs.Level.{Level, is_hole, faces_at}
 use Rattle.subdiv_model.specs.Child.{refined_level}
 use Rattle.subdiv_model.specs.Feature.{facts_of, is_selectable}
-use Rattle.subdiv_model.specs.Sparse.{Meeting, meets, chosen, selected, inner, present, present_points, is_whole}
+use Rattle.subdiv_model.specs.Sparse.{FacePredicate, meets, chosen, selected, inner, present, present_points, is_whole}
 use Rattle.mesh_laws.proofs.ClosedLemmas.{any-all}
 use Rattle.mesh_laws.proofs.FanLemmas.{faces-among}
 use Rattle.mesh_laws.proofs.WalkLemmas.{range-all}
@@ -20,7 +20,7 @@ use Rattle.part_laws.proofs.PartLemmas.{as-many}
 use Rattle.part_laws.proofs.PlaceLemmas.{among-range}
 use Rattle.sparse_laws.specs.SparseLevels.{name_in}
 use Rattle.sparse_laws.specs.Selected.{facts_in, is_selected_in}
-use Rattle.sparse_laws.specs.Laws.{Kept, InnerFace, AgreeingTest, chosen_by}
+use Rattle.sparse_laws.specs.Laws.{SparseRefinement, InnerFace, AgreeingTest, chosen_by}
 use Rattle.sparse_laws.proofs.FactLemmas.{all-own, same-facts}
 use Rattle.sparse_laws.proofs.InnerLemmas.{inner-present, inner-ascends}
 
@@ -37,29 +37,29 @@ set-within marks k h = go (cases_lt k (length marks))
     go (inr more) = let past = get_or_past marks k false more in absurd (cc)
 
 -- a point below the count whose mark is set has all its faces
-pub complete-whole : (kept : Kept) (p : ℕ) → p < kept.sparse.level.point_count → get_or kept.sparse.complete p false ≡ true → IsWholeAt kept.sparse.numbers (refined_level kept.base kept.sparse.depth).polygons (name_in (present_points kept.base kept.meeting kept.sparse.depth) p)
+pub complete-whole : (kept : SparseRefinement) (p : ℕ) → p < kept.sparse.level.point_count → get_or kept.sparse.complete p false ≡ true → IsWholeAt kept.sparse.numbers (refined_level kept.base kept.sparse.depth).polygons (name_in (present_points kept.base kept.predicate kept.sparse.depth) p)
 complete-whole kept p below h f there =
     let s = kept.sparse in
-    let points = present_points kept.base kept.meeting s.depth in
+    let points = present_points kept.base kept.predicate s.depth in
     let whole = refined_level kept.base s.depth in
     let within : p < length points = omega (arith, below, kept.is.points) in
-    let here : is_whole kept.base kept.meeting s.depth (name_in points p) ≡ true =
-    sym (get_or-map (is_whole kept.base kept.meeting s.depth) points p 0 false within) ∙ ap (λ marks. get_or marks p false) (sym kept.is.complete) ∙ h in
+    let here : is_whole kept.base kept.predicate s.depth (name_in points p) ≡ true =
+    sym (get_or-map (is_whole kept.base kept.predicate s.depth) points p 0 false within) ∙ ap (λ marks. get_or marks p false) (sym kept.is.complete) ∙ h in
     ap (λ numbers. is_among numbers f) kept.is.numbers
-    ∙ among-all (is_among (present kept.base kept.meeting s.depth)) (faces_at whole (name_in points p)) f (faces-among whole.polygons (name_in points p) f ∙ there) here
+    ∙ among-all (is_among (present kept.base kept.predicate s.depth)) (faces_at whole (name_in points p)) f (faces-among whole.polygons (name_in points p) f ∙ there) here
 
 -- a point with a mark is below the number of points
-pub marked-below : (kept : Kept) (p : ℕ) → get_or kept.sparse.complete p false ≡ true → p < kept.sparse.level.point_count
+pub marked-below : (kept : SparseRefinement) (p : ℕ) → get_or kept.sparse.complete p false ≡ true → p < kept.sparse.level.point_count
 marked-below kept p h =
-    let points = present_points kept.base kept.meeting kept.sparse.depth in
-    let long : length kept.sparse.complete ≡ length points = ap length kept.is.complete ∙ length-map points (is_whole kept.base kept.meeting kept.sparse.depth) in
+    let points = present_points kept.base kept.predicate kept.sparse.depth in
+    let long : length kept.sparse.complete ≡ length points = ap length kept.is.complete ∙ length-map points (is_whole kept.base kept.predicate kept.sparse.depth) in
     omega (arith, set-within kept.sparse.complete p h, long, kept.is.points)
 
 -- an inner face has the facts of its face in the uniform level
-pub inner-facts : (kept : Kept) (at : InnerFace kept) → facts_in kept.sparse at.face ≡ facts_of (refined_level kept.base kept.sparse.depth) kept.sparse.depth (get_or kept.sparse.numbers at.face 0)
+pub inner-facts : (kept : SparseRefinement) (at : InnerFace kept) → facts_in kept.sparse at.face ≡ facts_of (refined_level kept.base kept.sparse.depth) kept.sparse.depth (get_or kept.sparse.numbers at.face 0)
 inner-facts kept at =
     let s = kept.sparse in
-    same-facts (name_in (present_points kept.base kept.meeting s.depth)) s.numbers s.level (refined_level kept.base s.depth) kept.is.part at.face at.exists
+    same-facts (name_in (present_points kept.base kept.predicate s.depth)) s.numbers s.level (refined_level kept.base s.depth) kept.is.part at.face at.exists
     (λ p there. let mark = kept.is.inside at.face p at.inner there in complete-whole kept p (marked-below kept p mark) mark)
     s.depth
 
@@ -96,19 +96,19 @@ and-agree a true c d e same = rw e (same refl)
 and-agree a false c d e same = rw e refl
 
 -- the selected faces are chosen among the inner ones
-pub selected-chosen : (base : Level) (meeting : Meeting) (depth : ℕ) → selected base meeting depth ≡ chosen (refined_level base depth) meeting depth (inner base meeting depth)
-selected-chosen base meeting zero = refl
-selected-chosen base meeting (suc depth) = refl
+pub selected-chosen : (base : Level) (predicate : FacePredicate) (depth : ℕ) → selected base predicate depth ≡ chosen (refined_level base depth) predicate depth (inner base predicate depth)
+selected-chosen base predicate zero = refl
+selected-chosen base predicate (suc depth) = refl
 
-module _ (kept : Kept) where
+module _ (kept : SparseRefinement) where
   pub as-numbers : length kept.sparse.level.polygons ≡ length kept.sparse.numbers
-  as-numbers = as-many (name_in (present_points kept.base kept.meeting kept.sparse.depth)) kept.sparse.numbers kept.sparse.level.polygons (refined_level kept.base kept.sparse.depth).polygons kept.is.part.polygons
+  as-numbers = as-many (name_in (present_points kept.base kept.predicate kept.sparse.depth)) kept.sparse.numbers kept.sparse.level.polygons (refined_level kept.base kept.sparse.depth).polygons kept.is.part.polygons
 
   -- a face is marked exactly where it is inner
-  pub inner-mark : (f : ℕ) → f < length kept.sparse.level.polygons → get_or kept.sparse.inner f false ≡ is_among (inner kept.base kept.meeting kept.sparse.depth) (face_in kept.sparse.numbers f)
+  pub inner-mark : (f : ℕ) → f < length kept.sparse.level.polygons → get_or kept.sparse.inner f false ≡ is_among (inner kept.base kept.predicate kept.sparse.depth) (face_in kept.sparse.numbers f)
   inner-mark f inside =
       ap (λ marks. get_or marks f false) kept.is.inner
-      ∙ get_or-map (is_among (inner kept.base kept.meeting kept.sparse.depth)) kept.sparse.numbers f 0 false (omega (arith, inside, as-numbers))
+      ∙ get_or-map (is_among (inner kept.base kept.predicate kept.sparse.depth)) kept.sparse.numbers f 0 false (omega (arith, inside, as-numbers))
 
   pub number-below : (f : ℕ) → f < length kept.sparse.level.polygons → face_in kept.sparse.numbers f < length (refined_level kept.base kept.sparse.depth).polygons
   number-below f inside = kept.is.part.polygons.inside f 0 (omega (arith, inside, as-numbers))
@@ -119,10 +119,10 @@ module _ (kept : Kept) where
 
   -- whether the definitions choose a face, of those that are inner
   abbrev is_chosen : ℕ → Bool
-  is_chosen g = meets kept.meeting kept.sparse.depth g && not (is_hole (refined_level kept.base kept.sparse.depth) g)
+  is_chosen g = meets kept.predicate kept.sparse.depth g && not (is_hole (refined_level kept.base kept.sparse.depth) g)
 
   abbrev is_inner_chosen : ℕ → Bool
-  is_inner_chosen g = is_among (inner kept.base kept.meeting kept.sparse.depth) g && is_chosen g
+  is_inner_chosen g = is_among (inner kept.base kept.predicate kept.sparse.depth) g && is_chosen g
 
   module _ (by : AgreeingTest kept) where
     chosen-alike : (f : ℕ) → nat_lt f (length kept.sparse.level.polygons) ≡ true → is_inner_chosen (face_in kept.sparse.numbers f) ≡ is_selected_in by.test kept.sparse f
@@ -131,27 +131,27 @@ module _ (kept : Kept) where
         let whole = refined_level kept.base s.depth in
         let g = face_in s.numbers f in
         let inside = ltb-true f (length s.level.polygons) below in
-        and-agree (is_among (inner kept.base kept.meeting s.depth) g) (get_or s.inner f false) (is_chosen g) (by.test (facts_in s f) && is_selectable (facts_in s f)) (sym (inner-mark f inside)) (λ mark.
+        and-agree (is_among (inner kept.base kept.predicate s.depth) g) (get_or s.inner f false) (is_chosen g) (by.test (facts_in s f) && is_selectable (facts_in s f)) (sym (inner-mark f inside)) (λ mark.
         ap (λ ns. is_among ns g && not (is_hole whole g)) by.agrees
         ∙ ap (λ b. b && not (is_hole whole g)) (kept-of-range (λ face. by.test (facts_of whole s.depth face)) (length whole.polygons) g (number-below f inside))
         ∙ ap (λ facts. by.test facts && is_selectable facts) (sym (inner-facts kept (record { face = f; exists = inside; inner = mark }))))
 
-    pub selected-here : map (face_in kept.sparse.numbers) (chosen_by by) ≡ selected kept.base kept.meeting kept.sparse.depth
+    pub selected-here : map (face_in kept.sparse.numbers) (chosen_by by) ≡ selected kept.base kept.predicate kept.sparse.depth
     selected-here =
         let s = kept.sparse in
         let whole = refined_level kept.base s.depth in
         let count = length s.level.polygons in
-        let ins = inner kept.base kept.meeting s.depth in
+        let ins = inner kept.base kept.predicate s.depth in
         let up : Ascends 0 (0 + length whole.polygons) s.numbers =
         subst (λ b. Ascends 0 b s.numbers) (let e : length whole.polygons ≡ 0 + length whole.polygons = omega arith in e) (ascends (length whole.polygons) s.numbers kept.is.part.polygons.ascending kept.is.part.polygons.inside) in
         sym (filter-mapped (λ f. nat_lt f count) (face_in s.numbers) (is_selected_in by.test s) is_inner_chosen chosen-alike (range_with_len 0 count) (range-below count))
         ∙ ap (filter is_inner_chosen) numbers-read
         ∙ sym (kept-of-all is_inner_chosen 0 (length whole.polygons) s.numbers up (λ i low high on.
-        ap (λ ns. is_among ns i) kept.is.numbers ∙ inner-present kept.base kept.meeting s.depth i (and_parts (is_among ins i) (is_chosen i) on).0))
-        ∙ kept-of-all is_inner_chosen 0 (length whole.polygons) ins (inner-ascends kept.base kept.meeting s.depth) (λ i low high on. (and_parts (is_among ins i) (is_chosen i) on).0)
+        ap (λ ns. is_among ns i) kept.is.numbers ∙ inner-present kept.base kept.predicate s.depth i (and_parts (is_among ins i) (is_chosen i) on).0))
+        ∙ kept-of-all is_inner_chosen 0 (length whole.polygons) ins (inner-ascends kept.base kept.predicate s.depth) (λ i low high on. (and_parts (is_among ins i) (is_chosen i) on).0)
         ∙ filter-agree (is_among ins) is_inner_chosen is_chosen (λ n on. ap (λ b. b && is_chosen n) on) ins (all-own ins)
-        ∙ sym (selected-chosen kept.base kept.meeting s.depth)
+        ∙ sym (selected-chosen kept.base kept.predicate s.depth)
 
 -- the numbers of the faces that the test selects
-pub selected-same : (kept : Kept) (by : AgreeingTest kept) → map (face_in kept.sparse.numbers) (chosen_by by) ≡ selected kept.base kept.meeting kept.sparse.depth
+pub selected-same : (kept : SparseRefinement) (by : AgreeingTest kept) → map (face_in kept.sparse.numbers) (chosen_by by) ≡ selected kept.base kept.predicate kept.sparse.depth
 selected-same kept by = selected-here kept by

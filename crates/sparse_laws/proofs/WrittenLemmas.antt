@@ -19,7 +19,7 @@ use Rattle.part_laws.proofs.MaskLemmas.{faces-apart}
 use Rattle.sparse_laws.specs.SparseLevels.{name_in}
 use Rattle.sparse_laws.specs.Selected.{is_selected_in}
 use Rattle.sparse_laws.specs.Written.{used_points, written_in, written_here}
-use Rattle.sparse_laws.specs.Laws.{Kept, AgreeingTest, chosen_by}
+use Rattle.sparse_laws.specs.Laws.{SparseRefinement, AgreeingTest, chosen_by}
 use Rattle.sparse_laws.proofs.OnceLemmas.{each-once-map, position-map}
 use Rattle.sparse_laws.proofs.SelectedLemmas.{inner-mark, numbers-read, range-below, selected-same, selected-chosen}
 
@@ -59,9 +59,9 @@ filter-off-all (n ∷ ns) = filter-off-all ns
 none-among : (ns : List ℕ) (n : ℕ) → ns ≡ [] → is_among ns n ≡ false
 none-among ns n e = rw e refl
 
-module _ (kept : Kept) where
+module _ (kept : SparseRefinement) where
   abbrev name : ℕ → ℕ
-  name = name_in (present_points kept.base kept.meeting kept.sparse.depth)
+  name = name_in (present_points kept.base kept.predicate kept.sparse.depth)
 
   abbrev polygons : List Polygon
   polygons = kept.sparse.level.polygons
@@ -73,7 +73,7 @@ module _ (kept : Kept) where
   numbers = kept.sparse.numbers
 
   -- the points that are written, by their names
-  pub points-written : written_points kept.base kept.meeting kept.sparse.depth ≡ map (name_in (present_points kept.base kept.meeting kept.sparse.depth)) (used_points kept.sparse.level)
+  pub points-written : written_points kept.base kept.predicate kept.sparse.depth ≡ map (name_in (present_points kept.base kept.predicate kept.sparse.depth)) (used_points kept.sparse.level)
   points-written =
       ap (λ ns. each_once_by nat_eq (corners_of (map (polygon_at whole.polygons) ns))) (sym kept.is.numbers)
       ∙ ap (λ some. each_once_by nat_eq (corners_of some)) (sym kept.is.part.polygons.same)
@@ -84,7 +84,7 @@ module _ (kept : Kept) where
   pub own-used : list_all (is_corner kept.sparse.level.polygons) (used_points kept.sparse.level) ≡ true
   own-used = all-once nat_eq (is_corner polygons) (corners_of polygons) (own-corners-of polygons)
 
-  corners-written : (f : ℕ) → f < length polygons → map (λ v. position_or_len (nat_eq v) (used_points kept.sparse.level)) (polygon_at polygons f) ≡ map (λ v. position_or_len (nat_eq v) (written_points kept.base kept.meeting kept.sparse.depth)) (polygon_at whole.polygons (face_in numbers f))
+  corners-written : (f : ℕ) → f < length polygons → map (λ v. position_or_len (nat_eq v) (used_points kept.sparse.level)) (polygon_at polygons f) ≡ map (λ v. position_or_len (nat_eq v) (written_points kept.base kept.predicate kept.sparse.depth)) (polygon_at whole.polygons (face_in numbers f))
   corners-written f inside =
       let used = used_points kept.sparse.level in
       let own = all-at (list_all (is_corner polygons)) polygons f [] inside (own-corners polygons) in
@@ -94,21 +94,21 @@ module _ (kept : Kept) where
       ∙ ap (λ ns. map (λ v. position_or_len (nat_eq v) ns) (polygon_at whole.polygons (face_in numbers f))) (sym points-written)
 
   -- the output of each face is that of its number in the definitions, if the selected faces are the same
-  module _ (some : List ℕ) (alike : (f : ℕ) → f < length polygons → is_among some f ≡ is_among (selected kept.base kept.meeting kept.sparse.depth) (face_in numbers f)) where
-    face-written : (f : ℕ) → nat_lt f (length polygons) ≡ true → written_in kept.sparse some f ≡ written_face kept.base kept.meeting kept.sparse.depth (face_in numbers f)
+  module _ (some : List ℕ) (alike : (f : ℕ) → f < length polygons → is_among some f ≡ is_among (selected kept.base kept.predicate kept.sparse.depth) (face_in numbers f)) where
+    face-written : (f : ℕ) → nat_lt f (length polygons) ≡ true → written_in kept.sparse some f ≡ written_face kept.base kept.predicate kept.sparse.depth (face_in numbers f)
     face-written f below =
         let inside = ltb-true f (length polygons) below in
         face-alike (face_in numbers f) _ _ _ _
         (kind-alike _ _ _ _ _ _ (kept.is.part.holes f inside) (inner-mark kept f inside) (alike f inside))
         (corners-written f inside)
 
-    pub same-written : written_here kept.sparse some ≡ written_level kept.base kept.meeting kept.sparse.depth
+    pub same-written : written_here kept.sparse some ≡ written_level kept.base kept.predicate kept.sparse.depth
     same-written =
         level-alike _ _ _ _
         (sym (length-map (used_points kept.sparse.level) name) ∙ ap length (sym points-written))
-        (map-agree (λ f. nat_lt f (length polygons)) (written_in kept.sparse some) (λ f. written_face kept.base kept.meeting kept.sparse.depth (face_in numbers f)) face-written (range_with_len 0 (length polygons)) (range-below (length polygons))
-        ∙ sym (map-twice (face_in numbers) (written_face kept.base kept.meeting kept.sparse.depth) (range_with_len 0 (length polygons)))
-        ∙ ap (map (written_face kept.base kept.meeting kept.sparse.depth)) (numbers-read kept ∙ kept.is.numbers))
+        (map-agree (λ f. nat_lt f (length polygons)) (written_in kept.sparse some) (λ f. written_face kept.base kept.predicate kept.sparse.depth (face_in numbers f)) face-written (range_with_len 0 (length polygons)) (range-below (length polygons))
+        ∙ sym (map-twice (face_in numbers) (written_face kept.base kept.predicate kept.sparse.depth) (range_with_len 0 (length polygons)))
+        ∙ ap (map (written_face kept.base kept.predicate kept.sparse.depth)) (numbers-read kept ∙ kept.is.numbers))
 
   -- a face is among some faces exactly where its number is among their numbers
   among-numbers : (some : List ℕ) → list_all (λ f. nat_lt f (length polygons)) some ≡ true → (f : ℕ) → f < length polygons → is_among (map (face_in numbers) some) (face_in numbers f) ≡ is_among some f
@@ -116,18 +116,18 @@ module _ (kept : Kept) where
       any-mapped (λ k. nat_lt k (length polygons)) (face_in numbers) (nat_eq f) (nat_eq (face_in numbers f)) (λ k h. number-renamed (face_in numbers) (λ i. nat_lt i (length polygons)) (faces-apart name numbers polygons whole.polygons kept.is.part.polygons) f k (lt-ltb f (length polygons) inside) h) some below
 
   -- the faces that a test selects
-  pub written-refined : (by : AgreeingTest kept) → written_here kept.sparse (chosen_by by) ≡ written_level kept.base kept.meeting kept.sparse.depth
+  pub written-refined : (by : AgreeingTest kept) → written_here kept.sparse (chosen_by by) ≡ written_level kept.base kept.predicate kept.sparse.depth
   written-refined by =
       same-written (chosen_by by) (λ f inside.
       sym (among-numbers (chosen_by by) (all-filtered (is_selected_in by.test kept.sparse) (λ k. nat_lt k (length polygons)) (range_with_len 0 (length polygons)) (range-below (length polygons))) f inside)
       ∙ ap (λ ns. is_among ns (face_in numbers f)) (selected-same kept by))
 
   -- the output where the predicate has no faces
-  pub written-last : get_or kept.meeting kept.sparse.depth [] ≡ [] → written_here kept.sparse [] ≡ written_level kept.base kept.meeting kept.sparse.depth
+  pub written-last : get_or kept.predicate kept.sparse.depth [] ≡ [] → written_here kept.sparse [] ≡ written_level kept.base kept.predicate kept.sparse.depth
   written-last none =
-      let ins = inner kept.base kept.meeting kept.sparse.depth in
-      let empty : selected kept.base kept.meeting kept.sparse.depth ≡ [] =
-      selected-chosen kept.base kept.meeting kept.sparse.depth
+      let ins = inner kept.base kept.predicate kept.sparse.depth in
+      let empty : selected kept.base kept.predicate kept.sparse.depth ≡ [] =
+      selected-chosen kept.base kept.predicate kept.sparse.depth
       ∙ ap (λ ns. filter (λ face. is_among ns face && not (is_hole whole face)) ins) none
       ∙ filter-off-all ins in
-      same-written [] (λ f inside. sym (none-among (selected kept.base kept.meeting kept.sparse.depth) (face_in numbers f) empty))
+      same-written [] (λ f inside. sym (none-among (selected kept.base kept.predicate kept.sparse.depth) (face_in numbers f) empty))

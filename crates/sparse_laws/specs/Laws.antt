@@ -9,7 +9,7 @@ use Rattle.subdiv_model.specs.Child.{refined_level}
 use Rattle.subdiv_model.specs.Channel.{chaikin_overflows_at}
 use Rattle.subdiv_model.specs.SparseFaults.{points_with_child}
 use Rattle.subdiv_model.specs.Feature.{FaceFacts}
-use Rattle.subdiv_model.specs.Sparse.{Meeting, present_points}
+use Rattle.subdiv_model.specs.Sparse.{FacePredicate, present_points}
 use Rattle.mask_laws.specs.SharpBoundary.{has_sharp_boundary}
 use Rattle.part_laws.specs.Parts.{IsWholeAt}
 use Rattle.part_laws.specs.LevelParts.{LevelPart}
@@ -18,12 +18,12 @@ use Rattle.sparse_laws.specs.NextSparse.{IsNextSparse}
 use Rattle.sparse_laws.specs.Selected.{selected_in, Agrees}
 
 -- a sparse level of a base whose corners are points
-pub record Kept : Type 0 where
+pub record SparseRefinement : Type 0 where
   pub base : Level
-  pub meeting : Meeting
+  pub predicate : FacePredicate
   pub sparse : SparseLevel
   pub over : IsTrue (is_over base.point_count base.polygons)
-  pub is : IsSparse base meeting sparse
+  pub is : IsSparse base predicate sparse
 
 -- a level of simple faces in which each directed edge occurs once, with an infinitely sharp boundary
 pub record HasSharpBoundary (level : Level) : Type 0 where
@@ -32,53 +32,53 @@ pub record HasSharpBoundary (level : Level) : Type 0 where
   pub sharp : IsTrue (has_sharp_boundary level)
 
 -- the sparse level as a part of the uniform level
-abbrev pub part_of : Kept → LevelPart
-part_of kept = record {
-  name = name_in (present_points kept.base kept.meeting kept.sparse.depth);
-  faces = kept.sparse.numbers;
-  level = kept.sparse.level;
-  whole = refined_level kept.base kept.sparse.depth;
-  is_part = kept.is.part;
+abbrev pub part_of : SparseRefinement → LevelPart
+part_of refinement = record {
+  name = name_in (present_points refinement.base refinement.predicate refinement.sparse.depth);
+  faces = refinement.sparse.numbers;
+  level = refinement.sparse.level;
+  whole = refined_level refinement.base refinement.sparse.depth;
+  is_part = refinement.is.part;
 }
 
 -- the sparse level has all faces of the uniform level at point p
-abbrev pub IsWholePoint : Kept → ℕ → Type 0
-IsWholePoint kept p =
-    IsWholeAt kept.sparse.numbers (refined_level kept.base kept.sparse.depth).polygons
-    (name_in (present_points kept.base kept.meeting kept.sparse.depth) p)
+abbrev pub IsWholePoint : SparseRefinement → ℕ → Type 0
+IsWholePoint refinement p =
+    IsWholeAt refinement.sparse.numbers (refined_level refinement.base refinement.sparse.depth).polygons
+    (name_in (present_points refinement.base refinement.predicate refinement.sparse.depth) p)
 
 -- an edge of one face of the sparse level that ends at a complete point
-pub record BoundaryEdge (kept : Kept) : Type 0 where
+pub record BoundaryEdge (refinement : SparseRefinement) : Type 0 where
   pub e : ℕ
   pub v : ℕ
-  pub exists : e < length (edges_of kept.sparse.level.polygons)
-  pub ends : IsTrue (has_end v (get_or (edges_of kept.sparse.level.polygons) e (0, 0)))
-  pub complete : get_or kept.sparse.complete v false ≡ true
-  pub on_boundary : is_boundary kept.sparse.level.polygons (get_or (edges_of kept.sparse.level.polygons) e (0, 0)) ≡ true
+  pub exists : e < length (edges_of refinement.sparse.level.polygons)
+  pub ends : IsTrue (has_end v (get_or (edges_of refinement.sparse.level.polygons) e (0, 0)))
+  pub complete : get_or refinement.sparse.complete v false ≡ true
+  pub on_boundary : is_boundary refinement.sparse.level.polygons (get_or (edges_of refinement.sparse.level.polygons) e (0, 0)) ≡ true
 
 -- halves of edges overflow at a point of the uniform level that has a present child
-abbrev pub uniform_halves_overflow : Kept → Bool
-uniform_halves_overflow kept =
-    list_any (chaikin_overflows_at (refined_level kept.base kept.sparse.depth))
-    (points_with_child kept.base kept.meeting (refined_level kept.base kept.sparse.depth).point_count kept.sparse.depth)
+abbrev pub uniform_halves_overflow : SparseRefinement → Bool
+uniform_halves_overflow refinement =
+    list_any (chaikin_overflows_at (refined_level refinement.base refinement.sparse.depth))
+    (points_with_child refinement.base refinement.predicate (refined_level refinement.base refinement.sparse.depth).point_count refinement.sparse.depth)
 
 -- an inner face of the sparse level
-pub record InnerFace (kept : Kept) : Type 0 where
+pub record InnerFace (refinement : SparseRefinement) : Type 0 where
   pub face : ℕ
-  pub exists : face < length kept.sparse.level.polygons
-  pub inner : get_or kept.sparse.inner face false ≡ true
+  pub exists : face < length refinement.sparse.level.polygons
+  pub inner : get_or refinement.sparse.inner face false ≡ true
 
 -- a test of facts that selects the faces of the predicate at the depth of the level
-pub record AgreeingTest (kept : Kept) : Type 0 where
+pub record AgreeingTest (refinement : SparseRefinement) : Type 0 where
   pub test : FaceFacts → Bool
-  pub agrees : Agrees test kept.base kept.meeting kept.sparse.depth
+  pub agrees : Agrees test refinement.base refinement.predicate refinement.sparse.depth
 
 -- the faces that the test selects
-abbrev pub chosen_by : {kept : Kept} → AgreeingTest kept → List ℕ
-chosen_by {kept} by = selected_in by.test kept.sparse
+abbrev pub chosen_by : {refinement : SparseRefinement} → AgreeingTest refinement → List ℕ
+chosen_by {refinement} by = selected_in by.test refinement.sparse
 
 -- the next sparse level by the test
-pub record NextKept (kept : Kept) : Type 0 where
-  pub by : AgreeingTest kept
+pub record NextRefinement (refinement : SparseRefinement) : Type 0 where
+  pub by : AgreeingTest refinement
   pub next : SparseLevel
-  pub is_next : IsNextSparse kept.sparse (chosen_by by) next
+  pub is_next : IsNextSparse refinement.sparse (chosen_by by) next

@@ -4,7 +4,7 @@ use Rattle.std.specs.Prelude.{ℕ, ◌≡◌, ◌<◌, Bool, false, true, ◌&&�
 use Rattle.std.specs.List.{filter, range_with_len}
 use Rattle.subdiv_model.specs.Level.{Level}
 use Rattle.subdiv_model.specs.Feature.{FaceFacts, facts_of, is_selectable}
-use Rattle.subdiv_model.specs.Sparse.{Meeting, is_on, meeting_of}
+use Rattle.subdiv_model.specs.Sparse.{FacePredicate, is_on, predicate_of}
 use Rattle.subdiv_model.specs.Channel.{chaikin_overflows_at}
 use Rattle.sparse_laws.specs.SparseLevels.{SparseLevel}
 
@@ -21,8 +21,8 @@ abbrev pub selected_in : (FaceFacts → Bool) → SparseLevel → List ℕ
 selected_in test s = filter (is_selected_in test s) (range_with_len 0 (length s.level.polygons))
 
 -- at this depth the predicate and the test select the same faces of the uniform level
-abbrev pub Agrees : (FaceFacts → Bool) → Level → Meeting → ℕ → Type 0
-Agrees test base meeting depth = get_or meeting depth [] ≡ meeting_of test base depth
+abbrev pub Agrees : (FaceFacts → Bool) → Level → FacePredicate → ℕ → Type 0
+Agrees test base predicate depth = get_or predicate depth [] ≡ predicate_of test base depth
 
 -- the halves of edges overflow at vertex v, which is on a selected face
 pub record OverflowsOn (level : Level) (selected : List ℕ) (v : ℕ) : Type 0 where

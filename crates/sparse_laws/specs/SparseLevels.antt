@@ -5,7 +5,7 @@ use Rattle.std.specs.List.{range_with_len}
 use Rattle.subdiv_model.specs.Polygons.{is_among, is_over, polygon_at, has_corner}
 use Rattle.subdiv_model.specs.Level.{Level}
 use Rattle.subdiv_model.specs.Child.{refined_level}
-use Rattle.subdiv_model.specs.Sparse.{Meeting, inner, present, present_points, is_whole}
+use Rattle.subdiv_model.specs.Sparse.{FacePredicate, inner, present, present_points, is_whole}
 use Rattle.part_laws.specs.LevelParts.{IsLevelPart}
 
 -- some faces of a uniform level, with the numbers they have there
@@ -31,12 +31,12 @@ AreInnerComplete s = (f p : ℕ) → get_or s.inner f false ≡ true → IsTrue 
 -- The faces are the present faces, and the points are the present points. Polygons, holes and sharpness are those of the uniform
 -- level. Inner faces and complete points are those of the definitions. Each corner of an inner face is complete, and each corner is
 -- one of the points.
-pub record IsSparse (base : Level) (meeting : Meeting) (s : SparseLevel) : Type 0 where
-  pub numbers : s.numbers ≡ present base meeting s.depth
-  pub points : s.level.point_count ≡ length (present_points base meeting s.depth)
-  pub part : IsLevelPart (name_in (present_points base meeting s.depth)) s.numbers s.level (refined_level base s.depth)
-  pub inner : s.inner ≡ map (is_among (inner base meeting s.depth)) s.numbers
-  pub complete : s.complete ≡ map (is_whole base meeting s.depth) (present_points base meeting s.depth)
+pub record IsSparse (base : Level) (predicate : FacePredicate) (s : SparseLevel) : Type 0 where
+  pub numbers : s.numbers ≡ present base predicate s.depth
+  pub points : s.level.point_count ≡ length (present_points base predicate s.depth)
+  pub part : IsLevelPart (name_in (present_points base predicate s.depth)) s.numbers s.level (refined_level base s.depth)
+  pub inner : s.inner ≡ map (is_among (inner base predicate s.depth)) s.numbers
+  pub complete : s.complete ≡ map (is_whole base predicate s.depth) (present_points base predicate s.depth)
   pub inside : AreInnerComplete s
   pub over : IsTrue (is_over s.level.point_count s.level.polygons)
 

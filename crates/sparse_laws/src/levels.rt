@@ -6,35 +6,35 @@ ghost use Rattle.subdiv_model.specs.Sharpness.{Smooth, Infinite};
 ghost use Rattle.subdiv_model.specs.Level.{Level};
 ghost use Rattle.subdiv_model.specs.Child.{refined_level};
 ghost use Rattle.subdiv_model.specs.Feature.{facts_of};
-ghost use Rattle.subdiv_model.specs.Sparse.{Meeting, selected};
+ghost use Rattle.subdiv_model.specs.Sparse.{FacePredicate, selected};
 ghost use Rattle.part_laws.specs.Parts.{face_in};
 ghost use Rattle.sparse_laws.specs.SparseLevels.{IsSparse, whole_base};
 ghost use Rattle.sparse_laws.specs.Selected.{facts_in};
-ghost use Rattle.sparse_laws.specs.Laws.{BoundaryEdge, IsWholePoint, Kept, HasSharpBoundary, InnerFace, AgreeingTest, chosen_by};
+ghost use Rattle.sparse_laws.specs.Laws.{BoundaryEdge, IsWholePoint, SparseRefinement, HasSharpBoundary, InnerFace, AgreeingTest, chosen_by};
 
 /// Every level is sparse level 0 of itself, for each predicate.
 pub fn whole_levels_are_sparse()
-    ensures { (base : Level) (meeting : Meeting) → IsTrue (is_over base.point_count base.polygons) → IsSparse base meeting (whole_base base) }
+    ensures { (base : Level) (predicate : FacePredicate) → IsTrue (is_over base.point_count base.polygons) → IsSparse base predicate (whole_base base) }
 {}
 
 /// At a complete point a sparse level has all faces of the uniform level.
 pub fn complete_points_are_whole()
-    ensures { (kept : Kept) (p : ℕ) → p < kept.sparse.level.point_count → get_or kept.sparse.complete p false ≡ true → IsWholePoint kept p }
+    ensures { (refinement : SparseRefinement) (p : ℕ) → p < refinement.sparse.level.point_count → get_or refinement.sparse.complete p false ≡ true → IsWholePoint refinement p }
 {}
 
 /// An inner face has the same facts in the sparse level and in the uniform level.
 pub fn facts_of_inner_faces_are_the_same()
-    ensures { (kept : Kept) (at : InnerFace kept) → facts_in kept.sparse at.face
-        ≡ facts_of (refined_level kept.base kept.sparse.depth) kept.sparse.depth (get_or kept.sparse.numbers at.face 0) }
+    ensures { (refinement : SparseRefinement) (at : InnerFace refinement) → facts_in refinement.sparse at.face
+        ≡ facts_of (refined_level refinement.base refinement.sparse.depth) refinement.sparse.depth (get_or refinement.sparse.numbers at.face 0) }
 {}
 
 /// A test selects the faces that the definitions select, for each predicate that agrees with the test at this level.
 pub fn selected_faces_are_the_same()
-    ensures { (kept : Kept) (by : AgreeingTest kept)
-        → map (face_in kept.sparse.numbers) (chosen_by by) ≡ selected kept.base kept.meeting kept.sparse.depth }
+    ensures { (refinement : SparseRefinement) (by : AgreeingTest refinement)
+        → map (face_in refinement.sparse.numbers) (chosen_by by) ≡ selected refinement.base refinement.predicate refinement.sparse.depth }
 {}
 
 /// If the boundary of level 0 is infinitely sharp, each edge of one face at a complete point of a sparse level is.
 pub fn boundaries_at_complete_points_are_sharp()
-    ensures { (kept : Kept) (edge : BoundaryEdge kept) → HasSharpBoundary kept.base → get_or kept.sparse.level.edge_sharpness edge.e Smooth ≡ Infinite }
+    ensures { (refinement : SparseRefinement) (edge : BoundaryEdge refinement) → HasSharpBoundary refinement.base → get_or refinement.sparse.level.edge_sharpness edge.e Smooth ≡ Infinite }
 {}

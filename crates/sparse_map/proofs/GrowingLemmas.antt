@@ -5,7 +5,7 @@ use Rattle.std.proofs.lemmas.Bool.{ne_eqb}
 use Rattle.subdiv_model.specs.Polygons.{is_among}
 use Rattle.subdiv_model.specs.Level.{Level}
 use Rattle.subdiv_model.specs.Feature.{FaceFacts}
-use Rattle.subdiv_model.specs.Sparse.{Meeting, meeting_to, present, selected}
+use Rattle.subdiv_model.specs.Sparse.{FacePredicate, predicate_to, present, selected}
 use Rattle.subdiv_model.specs.SparseFaults.{present_faces}
 use Rattle.subdiv_model.specs.Channel.{Sharpnesses}
 use Rattle.level_topology.specs.Topology.{Topology, IsTopology}
@@ -38,8 +38,8 @@ plus-one : (k : ℕ) → k + 1 ≡ suc k
 plus-one k = omega arith
 
 module _ {C : Type 0} (test : FaceFacts → Bool) (base : Level) (depth : ℕ) (start : Place Walked C LevelMap) where
-  abbrev meeting : Meeting
-  meeting = meeting_to test base depth
+  abbrev predicate : FacePredicate
+  predicate = predicate_to test base depth
 
   abbrev Follow : Topology → ChildTopology → C → C → ℕ → ℕ → Type 0
   Follow t child before next old new = new ≡ old
@@ -57,53 +57,53 @@ module _ {C : Type 0} (test : FaceFacts → Bool) (base : Level) (depth : ℕ) (
   pub record IsAt (k : ℕ) (place : Place Walked C LevelMap) : Type 0 where
     pub reached : IsReached k place.reached.level.sparse
     pub later : start.steps ≤ place.steps
-    pub most : place.steps ≤ start.steps + sum_by (present_faces base meeting) (range_with_len 1 k)
+    pub most : place.steps ≤ start.steps + sum_by (present_faces base predicate) (range_with_len 1 k)
     pub rises : Rises place.visitor.starts
-    pub is : IsMapOf base meeting k (with_level place.visitor place.reached.level)
+    pub is : IsMapOf base predicate k (with_level place.visitor place.reached.level)
 
   pub at-start : IsReached 0 start.reached.level.sparse → start.visitor ≡ map_of_base base.polygons → IsAt 0 start
   at-start reached same =
-      let first = base-map base meeting in
-      let here : IsMapOf base meeting 0 start.visitor = subst (IsMapOf base meeting 0) (sym same) first in
+      let first = base-map base predicate in
+      let here : IsMapOf base predicate 0 start.visitor = subst (IsMapOf base predicate 0) (sym same) first in
       record {
         reached = reached;
         later = omega arith;
         most = omega arith;
-        rises = starts-rise base meeting 0 start.visitor here;
+        rises = starts-rise base predicate 0 start.visitor here;
         is = let none : nat_eq start.reached.level.sparse.depth 0 ≡ true = ap (λ n. nat_eq n 0) reached.deep in
-            subst (IsMapOf base meeting 0) (sym (let e : with_level start.visitor start.reached.level ≡ start.visitor = rw none refl in e)) here;
+            subst (IsMapOf base predicate 0) (sym (let e : with_level start.visitor start.reached.level ≡ start.visitor = rw none refl in e)) here;
       }
 
   -- the map with the next level
-  next-map : (k : ℕ) (t : SparseTopology) (before : LevelMap) (step : SparseChild) → k < depth → IsReached k t → IsRefined test t step → IsMapOf base meeting k before
-      → IsMapOf base meeting (suc k) (with_level before (walked_after step))
+  next-map : (k : ℕ) (t : SparseTopology) (before : LevelMap) (step : SparseChild) → k < depth → IsReached k t → IsRefined test t step → IsMapOf base predicate k before
+      → IsMapOf base predicate (suc k) (with_level before (walked_after step))
   next-map k t before step within reached refined is =
       let here = levels.sparse-in test base depth k t reached within in
       let next = levels.reached-next test base depth k t reached within step refined in
       let deeper : step.depth ≡ suc k = refined.next.depth ∙ ap suc reached.deep in
       let later : nat_eq step.depth 0 ≡ false = ne_eqb step.depth 0 (λ none. let e : suc k ≡ 0 = sym deeper ∙ none in absurd (omega (arith, e))) in
-      let marks : step.selected ≡ map (is_among (selected base meeting k)) (present base meeting k) =
+      let marks : step.selected ≡ map (is_among (selected base predicate k)) (present base predicate k) =
       refined.selected ∙ marks-are (kept test t here) (by test t here)
-      ∙ ap (map (is_among (selected base meeting t.depth))) here.is.numbers
-      ∙ ap (λ n. map (is_among (selected base meeting n)) (present base meeting n)) reached.deep in
-      let numbers : step.numbers ≡ present base meeting (suc k) =
-      (next.stands.is meeting (λ j h. agrees-to test base depth j (omega (arith, h, next.deep, within)))).numbers ∙ ap (present base meeting) deeper in
-      subst (IsMapOf base meeting (suc k)) (sym (let e : with_level before (walked_after step) ≡ grown before step.selected step.depth step.numbers = rw later refl in e))
-      (map-grown base meeting k before is step.selected marks step.numbers numbers step.depth deeper)
+      ∙ ap (map (is_among (selected base predicate t.depth))) here.is.numbers
+      ∙ ap (λ n. map (is_among (selected base predicate n)) (present base predicate n)) reached.deep in
+      let numbers : step.numbers ≡ present base predicate (suc k) =
+      (next.stands.is predicate (λ j h. agrees-to test base depth j (omega (arith, h, next.deep, within)))).numbers ∙ ap (present base predicate) deeper in
+      subst (IsMapOf base predicate (suc k)) (sym (let e : with_level before (walked_after step) ≡ grown before step.selected step.depth step.numbers = rw later refl in e))
+      (map-grown base predicate k before is step.selected marks step.numbers numbers step.depth deeper)
 
   at-next : (k : ℕ) (from end : Place Walked C LevelMap) → k < depth → IsAt k from → LeadsTo topology_of (IsMade test) Follow Takes from end → IsAt (k + 1) end
   at-next k from end within at leads =
       let t = from.reached.level.sparse in
       let made = leads.made.made in
-      let before : IsMapOf base meeting k end.visitor = subst (IsMapOf base meeting k) (sym (leads.taken at.rises)) at.is in
+      let before : IsMapOf base predicate k end.visitor = subst (IsMapOf base predicate k) (sym (leads.taken at.rises)) at.is in
       let count = levels.next-counted test base depth k t at.reached within in
       record {
         reached = levels.made-next test base depth k from.reached.level leads.made.child end.reached.level from.steps leads.made.level_steps within at.reached made;
         later = omega (arith, at.later, made.steps.later, leads.made.followed);
-        most = omega (arith, at.most, made.steps.most, leads.made.followed, count, sum-more (present_faces base meeting) k);
-        rises = starts-rise base meeting k end.visitor before;
-        is = subst (λ (w : Walked). IsMapOf base meeting (k + 1) (with_level end.visitor w)) (sym made.next_is)
-            (subst (λ n. IsMapOf base meeting n (with_level end.visitor (walked_after made.step))) (sym (plus-one k)) (next-map k t end.visitor made.step within at.reached made.refined before));
+        most = omega (arith, at.most, made.steps.most, leads.made.followed, count, sum-more (present_faces base predicate) k);
+        rises = starts-rise base predicate k end.visitor before;
+        is = subst (λ (w : Walked). IsMapOf base predicate (k + 1) (with_level end.visitor w)) (sym made.next_is)
+            (subst (λ n. IsMapOf base predicate n (with_level end.visitor (walked_after made.step))) (sym (plus-one k)) (next-map k t end.visitor made.step within at.reached made.refined before));
       }
 
   module _ (at : IsAt 0 start) where
@@ -113,14 +113,14 @@ module _ {C : Type 0} (test : FaceFacts → Bool) (base : Level) (depth : ℕ) (
         subst (λ n. IsAt n end) (plus-one k) (at-next k before end (omega (arith, within)) (walked-to k before (omega (arith, within)) walked) leads)
 
     -- at the depth the map has all levels, after the last one is added
-    pub all-mapped : (end : Place Walked C LevelMap) (whole : LevelMap) → IsWalked topology_of (IsMade test) Follow Takes start depth end → IsWithLevel end.visitor end.reached.level whole → IsMapOf base meeting depth whole
+    pub all-mapped : (end : Place Walked C LevelMap) (whole : LevelMap) → IsWalked topology_of (IsMade test) Follow Takes start depth end → IsWithLevel end.visitor end.reached.level whole → IsMapOf base predicate depth whole
     all-mapped end whole walked with =
         let last = walked-to depth end (omega arith) walked in
-        subst (IsMapOf base meeting depth) (sym (with last.rises)) last.is
+        subst (IsMapOf base predicate depth) (sym (with last.rises)) last.is
 
     pub no-fault : (end : Place Walked C LevelMap) → IsWalked topology_of (IsMade test) Follow Takes start depth end → HasNoSparseFault base test depth
     no-fault end walked = λ channel same track.
-        sparse-none channel meeting track depth (subst (λ b. AreFine b meeting depth) (sym same) (walked-to depth end (omega arith) walked).reached.fine)
+        sparse-none channel predicate track depth (subst (λ b. AreFine b predicate depth) (sym same) (walked-to depth end (omega arith) walked).reached.fine)
 
     pub all-steps : (end : Place Walked C LevelMap) → IsWalked topology_of (IsMade test) Follow Takes start depth end → AreSparseSteps base test depth start.steps end.steps
     all-steps end walked = let last = walked-to depth end (omega arith) walked in record { most = last.most; later = last.later }
@@ -129,10 +129,10 @@ module _ {C : Type 0} (test : FaceFacts → Bool) (base : Level) (depth : ℕ) (
         → new ≤ start.steps + present_to base test depth
     bound k new last within is h =
         let count = levels.next-counted test base depth k last.reached.level.sparse is.reached within in
-        omega (arith, is.most, h, count, sum-more (present_faces base meeting) k, sum-within (present_faces base meeting) (k + 1) depth (omega (arith, within)))
+        omega (arith, is.most, h, count, sum-more (present_faces base predicate) k, sum-within (present_faces base predicate) (k + 1) depth (omega (arith, within)))
 
     abbrev Stopped : ℕ → Cause → ℕ → Type 0
-    Stopped number cause new = IsFaultAt Sharpnesses base meeting depth number cause × AreSparseSteps base test depth start.steps new
+    Stopped number cause new = IsFaultAt Sharpnesses base predicate depth number cause × AreSparseSteps base test depth start.steps new
 
     stopped-at : (k : ℕ) (last : Place Walked C LevelMap) (new : ℕ) → k < depth → IsAt k last → (cause : Cause)
         → IsCause topology_of (IsMade test) (IsRefused test) Follow Fail last.reached cause last.steps new → Stopped (k + 1) cause new
@@ -142,7 +142,7 @@ module _ {C : Type 0} (test : FaceFacts → Bool) (base : Level) (depth : ℕ) (
     )
     stopped-at k last new within is cause (inr (inl left)) = absurd left.fails
     stopped-at k last new within is cause (inr (inr without)) = (
-      subst (IsFaultAt Sharpnesses base meeting depth (k + 1)) (sym without.memory) tt,
+      subst (IsFaultAt Sharpnesses base predicate depth (k + 1)) (sym without.memory) tt,
       record {
         most = bound k new last within is (omega (arith, without.made.made.steps.most, without.made.followed));
         later = omega (arith, is.later, without.made.made.steps.later, without.made.followed);

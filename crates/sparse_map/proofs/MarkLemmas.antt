@@ -13,12 +13,12 @@ use Rattle.part_laws.proofs.RenamedLemmas.{number-renamed}
 use Rattle.part_laws.proofs.MaskLemmas.{faces-apart}
 use Rattle.sparse_laws.specs.SparseLevels.{name_in}
 use Rattle.sparse_laws.specs.Selected.{is_selected_in}
-use Rattle.sparse_laws.specs.Laws.{Kept, AgreeingTest, chosen_by}
+use Rattle.sparse_laws.specs.Laws.{SparseRefinement, AgreeingTest, chosen_by}
 use Rattle.sparse_laws.proofs.SelectedLemmas.{as-numbers, range-below, selected-same}
 use Rattle.sparse_level.proofs.PartOfPlacesLemmas.{marked-among}
 use Rattle.sparse_level.proofs.SelectLemmas.{selected-marked}
 
-module _ (kept : Kept) (by : AgreeingTest kept) where
+module _ (kept : SparseRefinement) (by : AgreeingTest kept) where
   abbrev count : ℕ
   count = length kept.sparse.level.polygons
 
@@ -29,10 +29,10 @@ module _ (kept : Kept) (by : AgreeingTest kept) where
   marks = map (is_selected_in by.test kept.sparse) (range_with_len 0 count)
 
   -- the test selects a face exactly if its number is among the selected faces
-  among-numbers : (f : ℕ) → f < count → is_among (selected kept.base kept.meeting kept.sparse.depth) (face_in numbers f) ≡ is_among (chosen_by by) f
+  among-numbers : (f : ℕ) → f < count → is_among (selected kept.base kept.predicate kept.sparse.depth) (face_in numbers f) ≡ is_among (chosen_by by) f
   among-numbers f inside =
       let whole = (refined_level kept.base kept.sparse.depth).polygons in
-      let name = name_in (present_points kept.base kept.meeting kept.sparse.depth) in
+      let name = name_in (present_points kept.base kept.predicate kept.sparse.depth) in
       ap (λ ns. is_among ns (face_in numbers f)) (sym (selected-same kept by))
       ∙ any-mapped (λ k. nat_lt k count) (face_in numbers) (nat_eq f) (nat_eq (face_in numbers f))
       (λ k h. number-renamed (face_in numbers) (λ i. nat_lt i count) (faces-apart name numbers kept.sparse.level.polygons whole kept.is.part.polygons) f k (lt-ltb f count inside) h)
@@ -41,9 +41,9 @@ module _ (kept : Kept) (by : AgreeingTest kept) where
   mark-at : (f : ℕ) → get_or marks f false ≡ is_among (chosen_by by) f
   mark-at f = marked-among marks f ∙ ap (λ ns. is_among ns f) (selected-marked by.test kept.sparse)
 
-  pub marks-are : map (is_selected_in by.test kept.sparse) (range_with_len 0 (length kept.sparse.level.polygons)) ≡ map (is_among (selected kept.base kept.meeting kept.sparse.depth)) kept.sparse.numbers
+  pub marks-are : map (is_selected_in by.test kept.sparse) (range_with_len 0 (length kept.sparse.level.polygons)) ≡ map (is_among (selected kept.base kept.predicate kept.sparse.depth)) kept.sparse.numbers
   marks-are =
-      let sel = is_among (selected kept.base kept.meeting kept.sparse.depth) in
+      let sel = is_among (selected kept.base kept.predicate kept.sparse.depth) in
       let many = length-map-range_with_len (is_selected_in by.test kept.sparse) 0 count in
       same_lists marks (map sel numbers) (many ∙ as-numbers kept ∙ sym (length-map numbers sel)) (λ k d h.
       let below : k < count = omega (arith, h, many) in

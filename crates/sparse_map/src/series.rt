@@ -2,7 +2,7 @@
 
 ghost use Rattle.std.specs.Prelude.{◌≡◌, ◌≤◌, MatchResult, OnOk};
 ghost use Rattle.subdiv_model.specs.Channel.{Sharpnesses};
-ghost use Rattle.subdiv_model.specs.Sparse.{meeting_to};
+ghost use Rattle.subdiv_model.specs.Sparse.{predicate_to};
 ghost use Rattle.feature_select.specs.Rule.{AnswersTest};
 ghost use Rattle.patch_map.specs.Is.{IsMapOf};
 ghost use Rattle.sparse_walk.specs.Base.{IsSparseBase};
@@ -39,7 +39,7 @@ pub fn map_sparse<T: FaceTest, F: Fn(&FaceFacts) -> bool, L: Ledger>(
     requires depth { depth ≤ 10 }
     requires answers { AnswersTest F.Fn rule.now.0 (T.meets rule.now.1) }
     ensures map { MatchResult result
-        (λ map. IsMapOf base.level (meeting_to (T.meets rule.now.1) base.level depth) depth map)
+        (λ map. IsMapOf base.level (predicate_to (T.meets rule.now.1) base.level depth) depth map)
         (IsSparseFault Sharpnesses base.level (T.meets rule.now.1) depth) }
     ensures fine { OnOk result (HasNoSparseFault base.level (T.meets rule.now.1) depth) }
     ensures steps { AreSparseSteps base.level (T.meets rule.now.1) depth steps.old steps.new }

@@ -21,7 +21,7 @@ use Rattle.child_slots.proofs.SlotLemmas.{over-of}
 use Rattle.part_level.specs.Shapes.{AreMarks, AreNames, children_at, name_in}
 use Rattle.sparse_laws.specs.NextSparse.{IsNextSparse, has_all_faces, uniform_child}
 use Rattle.sparse_laws.specs.Selected.{is_selected_in}
-use Rattle.sparse_laws.specs.Laws.{Kept}
+use Rattle.sparse_laws.specs.Laws.{SparseRefinement}
 use Rattle.sparse_laws.proofs.SelectedLemmas.{set-within}
 use Rattle.sparse_laws.proofs.NextSparseLemmas.{next-sparse}
 use Rattle.sparse_level.specs.Places.{AreWithin, marked, marks_on, points_at}
@@ -264,7 +264,7 @@ module _ (test : FaceFacts → Bool) (s : SparseTopology) (marks : List Bool) (s
 -- the next level is that of the definitions
 pub next-of-is : {test : FaceFacts → Bool} {s : SparseTopology} (of : SparseOf test s) (step : SparseChild) → IsRefined test s step → IsNextOf of step
 next-of-is {test} {s} of step is =
-    let kept : Kept = record { base = of.base; meeting = of.meeting; sparse = level_of s; over = of.over; is = of.is } in
+    let kept : SparseRefinement = record { base = of.base; predicate = of.predicate; sparse = level_of s; over = of.over; is = of.is } in
     next-sparse kept (record { by = record { test = test; agrees = of.agrees }; next = level_of (next_of step); is_next = is.next })
 
 pub next-answer : {test : FaceFacts → Bool} {s : SparseTopology} (of : SparseOf test s) (r : Result SparseChild RefineFault) → MatchResult r (IsRefined test s) (IsRefusal test s) → IfOk r (IsNextOf of)

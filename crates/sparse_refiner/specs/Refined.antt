@@ -5,7 +5,7 @@ use Rattle.subdiv_model.specs.Polygons.{is_over}
 use Rattle.subdiv_model.specs.Level.{Level}
 use Rattle.subdiv_model.specs.Channel.{chaikin_overflows_at}
 use Rattle.subdiv_model.specs.Feature.{FaceFacts}
-use Rattle.subdiv_model.specs.Sparse.{Meeting, is_on}
+use Rattle.subdiv_model.specs.Sparse.{FacePredicate, is_on}
 use Rattle.level_topology.specs.Child.{child_of}
 use Rattle.level_topology.specs.ChildTables.{numbered_origin}
 use Rattle.sparse_laws.specs.SparseLevels.{IsSparse}
@@ -50,11 +50,11 @@ IsRefusal test t Memory = Unit {0}
 -- the level is a sparse level of the definitions, for a predicate that agrees with the test at its depth
 pub record SparseOf (test : FaceFacts → Bool) (t : SparseTopology) : Type 0 where
   pub base : Level
-  pub meeting : Meeting
+  pub predicate : FacePredicate
   pub over : IsTrue (is_over base.point_count base.polygons)
-  pub is : IsSparse base meeting (level_of t)
-  pub agrees : Agrees test base meeting t.depth
+  pub is : IsSparse base predicate (level_of t)
+  pub agrees : Agrees test base predicate t.depth
 
 -- the step makes the next sparse level of the definitions
 abbrev pub IsNextOf : {test : FaceFacts → Bool} {t : SparseTopology} → SparseOf test t → SparseChild → Type 0
-IsNextOf of step = IsSparse of.base of.meeting (level_of (next_of step))
+IsNextOf of step = IsSparse of.base of.predicate (level_of (next_of step))

@@ -1,5 +1,5 @@
 pub mod FaceLemmas
 pub mod SelectionLemmas
-pub mod MeetingLemmas
+pub mod PredicateLemmas
 pub mod CutLemmas
 pub mod PresentLemmas

@@ -7,7 +7,7 @@ use Rattle.subdiv_model.specs.Lists.{places}
 use Rattle.subdiv_model.specs.Polygons.{Polygon, has_corner, is_among, polygon_at}
 use Rattle.subdiv_model.specs.Level.{Level}
 use Rattle.subdiv_model.specs.Child.{refined_level}
-use Rattle.subdiv_model.specs.Sparse.{Meeting, corners_of, is_on, selected, inner, present}
+use Rattle.subdiv_model.specs.Sparse.{FacePredicate, corners_of, is_on, selected, inner, present}
 use Rattle.subdiv_model.specs.SparseTexture.{selected_to}
 use Rattle.number_laws.proofs.CountLemmas.{any-weaker}
 use Rattle.sparse_laws.proofs.InnerLemmas.{inner-present}
@@ -60,16 +60,16 @@ places-named name polygons others faces n e h =
     ∙ on-named name polygons others faces (get_or corners n 0) e on
 
 -- the children of selected faces of the base are present in the cut level
-pub inner-there : (base cut : Level) → HaveSameFaces base cut → (meeting : Meeting) (depth k n : ℕ) → k ≤ depth → is_among (inner base meeting k) n ≡ true → is_among (present cut (selected_to base meeting depth) k) n ≡ true
-inner-there base cut same meeting depth k n h there =
-    inner-present cut (selected_to base meeting depth) k n (ap (λ ns. is_among ns n) (cut-inner base cut same meeting depth k h) ∙ there)
+pub inner-there : (base cut : Level) → HaveSameFaces base cut → (predicate : FacePredicate) (depth k n : ℕ) → k ≤ depth → is_among (inner base predicate k) n ≡ true → is_among (present cut (selected_to base predicate depth) k) n ≡ true
+inner-there base cut same predicate depth k n h there =
+    inner-present cut (selected_to base predicate depth) k n (ap (λ ns. is_among ns n) (cut-inner base cut same predicate depth k h) ∙ there)
 
 -- a face present in the cut level is present in the base
-pub present-there : (name : ℕ → ℕ) (base cut : Level) → IsCutOf name base cut → (meeting : Meeting) (depth k n : ℕ) → k ≤ depth → is_among (present cut (selected_to base meeting depth) k) n ≡ true → is_among (present base meeting k) n ≡ true
-present-there name base cut is meeting depth zero n h there = ap (λ count. is_among (range_with_len 0 count) n) (sym (count-same base cut (cut-faces name base cut is))) ∙ there
-present-there name base cut is meeting depth (suc k) n h there =
+pub present-there : (name : ℕ → ℕ) (base cut : Level) → IsCutOf name base cut → (predicate : FacePredicate) (depth k n : ℕ) → k ≤ depth → is_among (present cut (selected_to base predicate depth) k) n ≡ true → is_among (present base predicate k) n ≡ true
+present-there name base cut is predicate depth zero n h there = ap (λ count. is_among (range_with_len 0 count) n) (sym (count-same base cut (cut-faces name base cut is))) ∙ there
+present-there name base cut is predicate depth (suc k) n h there =
     let same = cut-faces name base cut is in
     let level = refined_level cut k in
     let after = cut-after name base cut is k in
-    places-named after.0 level.polygons (refined_level base k).polygons (selected base meeting k) n after.1.faces
-    (ap (λ faces. is_among (places (is_on level.polygons faces) (corners_of level.polygons)) n) (sym (cut-selected base cut same meeting depth k (omega arith))) ∙ there)
+    places-named after.0 level.polygons (refined_level base k).polygons (selected base predicate k) n after.1.faces
+    (ap (λ faces. is_among (places (is_on level.polygons faces) (corners_of level.polygons)) n) (sym (cut-selected base cut same predicate depth k (omega arith))) ∙ there)

@@ -6,7 +6,7 @@ use Rattle.std.proofs.lemmas.List.FromFn.{length-map-range_with_len, get_or-map-
 use Rattle.subdiv_model.specs.Polygons.{is_among}
 use Rattle.subdiv_model.specs.Level.{Level, is_hole}
 use Rattle.subdiv_model.specs.Child.{refined_level}
-use Rattle.subdiv_model.specs.Sparse.{Meeting, meets, chosen, selected, inner, children_of}
+use Rattle.subdiv_model.specs.Sparse.{FacePredicate, meets, chosen, selected, inner, children_of}
 use Rattle.subdiv_model.specs.SparseTexture.{selected_to}
 use Rattle.part_laws.proofs.AscendingLemmas.{kept-of-all}
 use Rattle.sparse_laws.proofs.FactLemmas.{all-own}
@@ -27,67 +27,67 @@ again a true false e = rw e refl
 again a false true e = rw e refl
 again a false false e = rw e refl
 
-chosen-again : (level : Level) (meeting : Meeting) (depth : ℕ) (faces : List ℕ) → filter (λ f. is_among (chosen level meeting depth faces) f && not (is_hole level f)) faces ≡ chosen level meeting depth faces
-chosen-again level meeting depth faces =
-    let test : ℕ → Bool = λ f. meets meeting depth f && not (is_hole level f) in
-    filter-agree (is_among faces) (λ f. is_among (filter test faces) f && not (is_hole level f)) test (λ f there. again (is_among (filter test faces) f) (meets meeting depth f) (not (is_hole level f)) (kept-passes test faces f there)) faces (all-own faces)
+chosen-again : (level : Level) (predicate : FacePredicate) (depth : ℕ) (faces : List ℕ) → filter (λ f. is_among (chosen level predicate depth faces) f && not (is_hole level f)) faces ≡ chosen level predicate depth faces
+chosen-again level predicate depth faces =
+    let test : ℕ → Bool = λ f. meets predicate depth f && not (is_hole level f) in
+    filter-agree (is_among faces) (λ f. is_among (filter test faces) f && not (is_hole level f)) test (λ f there. again (is_among (filter test faces) f) (meets predicate depth f) (not (is_hole level f)) (kept-passes test faces f there)) faces (all-own faces)
 
 -- the selected faces, by their numbers among all
-pub selected-among : (base : Level) (meeting : Meeting) (k : ℕ) → selected base meeting k ≡ faces_among (refined_level base k) (selected base meeting k)
-selected-among base meeting k =
+pub selected-among : (base : Level) (predicate : FacePredicate) (k : ℕ) → selected base predicate k ≡ faces_among (refined_level base k) (selected base predicate k)
+selected-among base predicate k =
     let level = refined_level base k in
-    let ins = inner base meeting k in
-    let some = chosen level meeting k ins in
+    let ins = inner base predicate k in
+    let some = chosen level predicate k ins in
     let test : ℕ → Bool = λ f. is_among some f && not (is_hole level f) in
-    let same = selected-chosen base meeting k in
+    let same = selected-chosen base predicate k in
     same
-    ∙ sym (chosen-again level meeting k ins)
-    ∙ sym (kept-of-all test 0 (length level.polygons) ins (inner-ascends base meeting k) (λ i low high on.
-    kept-among (λ face. meets meeting k face && not (is_hole level face)) ins i (and_parts (is_among some i) (not (is_hole level i)) on).0))
+    ∙ sym (chosen-again level predicate k ins)
+    ∙ sym (kept-of-all test 0 (length level.polygons) ins (inner-ascends base predicate k) (λ i low high on.
+    kept-among (λ face. meets predicate k face && not (is_hole level face)) ins i (and_parts (is_among some i) (not (is_hole level i)) on).0))
     ∙ ap (faces_among level) (sym same)
 
-pub selected-at : (base : Level) (meeting : Meeting) (depth k : ℕ) → k < depth → get_or (selected_to base meeting depth) k [] ≡ selected base meeting k
-selected-at base meeting depth k h = get_or-map-range_with_len (selected base meeting) 0 depth k k [] h (omega arith)
+pub selected-at : (base : Level) (predicate : FacePredicate) (depth k : ℕ) → k < depth → get_or (selected_to base predicate depth) k [] ≡ selected base predicate k
+selected-at base predicate depth k h = get_or-map-range_with_len (selected base predicate) 0 depth k k [] h (omega arith)
 
-module _ (base cut : Level) (same : HaveSameFaces base cut) (meeting : Meeting) where
+module _ (base cut : Level) (same : HaveSameFaces base cut) (predicate : FacePredicate) where
   among-same : (k : ℕ) (numbers : List ℕ) → faces_among (refined_level cut k) numbers ≡ faces_among (refined_level base k) numbers
   among-same k numbers =
       let alike = after-same base cut same k in
       ap (λ count. filter (λ f. is_among numbers f && not (is_hole (refined_level cut k) f)) (range_with_len 0 count)) (count-same (refined_level base k) (refined_level cut k) alike)
       ∙ ap (λ marks. filter (λ f. is_among numbers f && not (get_or marks f false)) (range_with_len 0 (length (refined_level base k).polygons))) alike.holes
 
-  pub cut-selection : (depth : ℕ) → IsSelection cut depth (selected_to base meeting depth)
+  pub cut-selection : (depth : ℕ) → IsSelection cut depth (selected_to base predicate depth)
   cut-selection depth = record {
-    levels = length-map-range_with_len (selected base meeting) 0 depth;
+    levels = length-map-range_with_len (selected base predicate) 0 depth;
     each = λ k h.
-        let at = selected-at base meeting depth k h in
-        at ∙ selected-among base meeting k ∙ sym (among-same k (selected base meeting k)) ∙ ap (faces_among (refined_level cut k)) (sym at);
+        let at = selected-at base predicate depth k h in
+        at ∙ selected-among base predicate k ∙ sym (among-same k (selected base predicate k)) ∙ ap (faces_among (refined_level cut k)) (sym at);
   }
 
   module _ (depth : ℕ) where
-    abbrev numbers : Meeting
-    numbers = selected_to base meeting depth
+    abbrev numbers : FacePredicate
+    numbers = selected_to base predicate depth
 
     -- where the inner faces are the same, so are the selected ones
-    from-inner : (k : ℕ) → k < depth → inner cut (selected_to base meeting depth) k ≡ inner base meeting k → selected cut (selected_to base meeting depth) k ≡ selected base meeting k
+    from-inner : (k : ℕ) → k < depth → inner cut (selected_to base predicate depth) k ≡ inner base predicate k → selected cut (selected_to base predicate depth) k ≡ selected base predicate k
     from-inner k h e =
         let alike = after-same base cut same k in
         let level = refined_level base k in
-        let at = selected-at base meeting depth k h in
+        let at = selected-at base predicate depth k h in
         selected-chosen cut numbers k
         ∙ ap (chosen (refined_level cut k) numbers k) e
-        ∙ ap (λ marks. filter (λ f. is_among (get_or numbers k []) f && not (get_or marks f false)) (inner base meeting k)) alike.holes
-        ∙ ap (λ ns. filter (λ f. is_among ns f && not (is_hole level f)) (inner base meeting k)) (at ∙ selected-chosen base meeting k)
-        ∙ chosen-again level meeting k (inner base meeting k)
-        ∙ sym (selected-chosen base meeting k)
+        ∙ ap (λ marks. filter (λ f. is_among (get_or numbers k []) f && not (get_or marks f false)) (inner base predicate k)) alike.holes
+        ∙ ap (λ ns. filter (λ f. is_among ns f && not (is_hole level f)) (inner base predicate k)) (at ∙ selected-chosen base predicate k)
+        ∙ chosen-again level predicate k (inner base predicate k)
+        ∙ sym (selected-chosen base predicate k)
 
-    pub cut-inner : (k : ℕ) → k ≤ depth → inner cut (selected_to base meeting depth) k ≡ inner base meeting k
+    pub cut-inner : (k : ℕ) → k ≤ depth → inner cut (selected_to base predicate depth) k ≡ inner base predicate k
     cut-inner zero h = ap (range_with_len 0) (count-same base cut same)
     cut-inner (suc k) h =
         let alike = after-same base cut same k in
         ap (children_of (refined_level cut k).polygons) (from-inner k (omega arith) (cut-inner k (omega arith)))
-        ∙ children-same (refined_level cut k).polygons (refined_level base k).polygons (selected base meeting k) alike.sizes
+        ∙ children-same (refined_level cut k).polygons (refined_level base k).polygons (selected base predicate k) alike.sizes
 
     -- the faces that are selected by their numbers are the selected faces
-    pub cut-selected : (k : ℕ) → k < depth → selected cut (selected_to base meeting depth) k ≡ selected base meeting k
+    pub cut-selected : (k : ℕ) → k < depth → selected cut (selected_to base predicate depth) k ≡ selected base predicate k
     cut-selected k h = from-inner k h (cut-inner k (omega arith))

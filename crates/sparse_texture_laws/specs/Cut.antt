@@ -3,7 +3,7 @@
 use Rattle.std.specs.Prelude.{ℕ, ◌≡◌, ◌≤◌, Bool, length, map, IsTrue}
 use Rattle.subdiv_model.specs.Polygons.{is_among, is_over}
 use Rattle.subdiv_model.specs.Level.{Level}
-use Rattle.subdiv_model.specs.Sparse.{Meeting, inner, present}
+use Rattle.subdiv_model.specs.Sparse.{FacePredicate, inner, present}
 use Rattle.subdiv_model.specs.SparseTexture.{selected_to}
 
 -- both levels have as many faces, each with as many corners, and the same holes
@@ -22,7 +22,7 @@ pub record IsCutOf (name : ℕ → ℕ) (base cut : Level) : Type 0 where
 pub record CutFace : Type 0 where
   pub base : Level
   pub cut : Level
-  pub meeting : Meeting
+  pub predicate : FacePredicate
   pub depth : ℕ
   pub steps : ℕ
   pub within : steps ≤ depth
@@ -30,12 +30,12 @@ pub record CutFace : Type 0 where
 
 -- the face is an inner face of the base: the parent of the face is selected, or it is a face of level 0
 abbrev pub is_inner : CutFace → Bool
-is_inner at = is_among (inner at.base at.meeting at.steps) at.face
+is_inner at = is_among (inner at.base at.predicate at.steps) at.face
 
 -- the face is present in the level of the base
 abbrev pub is_present : CutFace → Bool
-is_present at = is_among (present at.base at.meeting at.steps) at.face
+is_present at = is_among (present at.base at.predicate at.steps) at.face
 
 -- the face is present in the level of the cut
 abbrev pub is_present_in_cut : CutFace → Bool
-is_present_in_cut at = is_among (present at.cut (selected_to at.base at.meeting at.depth) at.steps) at.face
+is_present_in_cut at = is_among (present at.cut (selected_to at.base at.predicate at.depth) at.steps) at.face

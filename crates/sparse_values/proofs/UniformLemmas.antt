@@ -25,19 +25,19 @@ use Rattle.part_laws.proofs.JoinLemmas.{corner-of}
 use Rattle.part_laws.proofs.ChildLemmas.{child-points}
 use Rattle.part_laws.proofs.ValueLemmas.{next-denominators, next-masks, next-supports, next-values}
 use Rattle.sparse_laws.specs.NextSparse.{vertex_at}
-use Rattle.sparse_laws.specs.Laws.{Kept, AgreeingTest, chosen_by, part_of}
+use Rattle.sparse_laws.specs.Laws.{SparseRefinement, AgreeingTest, chosen_by, part_of}
 use Rattle.sparse_laws.proofs.FactLemmas.{all-own}
 use Rattle.sparse_laws.proofs.NextPartLemmas.{begins-at, points-same}
 use Rattle.sparse_laws.proofs.NextSparseLemmas.{selection}
 use Rattle.sparse_laws.proofs.OverflowLemmas.{child-corner, passes-here, passes-there}
 use Rattle.sparse_values.specs.Uniform.{at_next_points, at_points, items_at, next_points_of, WeighsOver}
 
-module _ (kept : Kept) where
+module _ (kept : SparseRefinement) where
   over-points : IsOverPoints (part_of kept)
   over-points = record { level = kept.is.over; whole = levels-over-points kept.base kept.sparse.depth kept.over }
 
   -- a corner is one of the present points
-  corner-within : (p : ℕ) → is_corner kept.sparse.level.polygons p ≡ true → p < length (present_points kept.base kept.meeting kept.sparse.depth)
+  corner-within : (p : ℕ) → is_corner kept.sparse.level.polygons p ≡ true → p < length (present_points kept.base kept.predicate kept.sparse.depth)
   corner-within p there =
       let level = kept.sparse.level in
       let found = corner-of level.polygons p there in
@@ -48,7 +48,7 @@ module _ (kept : Kept) where
   known_at d items = record {
     here = at_points kept d items;
     there = items;
-    same = λ p there. get_or-map (λ n. get_or items n d) (present_points kept.base kept.meeting kept.sparse.depth) p 0 d (corner-within p there);
+    same = λ p there. get_or-map (λ n. get_or items n d) (present_points kept.base kept.predicate kept.sparse.depth) p 0 d (corner-within p there);
   }
 
   module _ (by : AgreeingTest kept) where
@@ -98,11 +98,11 @@ module _ (kept : Kept) where
     weight-alike : (scheme : Scheme) (w : ℕ) → is_corner kept.sparse.level.polygons w ≡ true → IsWholeAt kept.sparse.numbers (refined_level kept.base kept.sparse.depth).polygons ((part_of kept).name w) → transition_overflows_at kept.sparse.level scheme w ≡ transition_overflows_at (refined_level kept.base kept.sparse.depth) scheme ((part_of kept).name w)
     weight-alike scheme w there all = same-transition (part_of kept).name kept.sparse.numbers kept.sparse.level (refined_level kept.base kept.sparse.depth) kept.is.part w there all scheme
 
-    pub weighs-here : (scheme : Scheme) (v : ℕ) → WeighsOver kept.sparse.level (chosen_by by) scheme v → list_any (transition_overflows_at (refined_level kept.base kept.sparse.depth) scheme) (points_with_child kept.base kept.meeting (refined_level kept.base kept.sparse.depth).point_count kept.sparse.depth) ≡ true
+    pub weighs-here : (scheme : Scheme) (v : ℕ) → WeighsOver kept.sparse.level (chosen_by by) scheme v → list_any (transition_overflows_at (refined_level kept.base kept.sparse.depth) scheme) (points_with_child kept.base kept.predicate (refined_level kept.base kept.sparse.depth).point_count kept.sparse.depth) ≡ true
     weighs-here scheme v o =
         passes-here (selection kept by) (transition_overflows_at kept.sparse.level scheme) (transition_overflows_at (refined_level kept.base kept.sparse.depth) scheme) (weight-alike scheme) v o.exists o.on o.overflows
 
-    pub weighs-there : (scheme : Scheme) → list_any (transition_overflows_at (refined_level kept.base kept.sparse.depth) scheme) (points_with_child kept.base kept.meeting (refined_level kept.base kept.sparse.depth).point_count kept.sparse.depth) ≡ true → (v : ℕ) × WeighsOver kept.sparse.level (chosen_by by) scheme v
+    pub weighs-there : (scheme : Scheme) → list_any (transition_overflows_at (refined_level kept.base kept.sparse.depth) scheme) (points_with_child kept.base kept.predicate (refined_level kept.base kept.sparse.depth).point_count kept.sparse.depth) ≡ true → (v : ℕ) × WeighsOver kept.sparse.level (chosen_by by) scheme v
     weighs-there scheme some =
         let found = passes-there (selection kept by) (transition_overflows_at kept.sparse.level scheme) (transition_overflows_at (refined_level kept.base kept.sparse.depth) scheme) (weight-alike scheme) some in
         (found.w, record { exists = found.exists; on = found.on; overflows = found.passes })

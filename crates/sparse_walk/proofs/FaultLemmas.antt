@@ -6,7 +6,7 @@ use Rattle.subdiv_model.specs.Lists.{first_of}
 use Rattle.subdiv_model.specs.Level.{Level}
 use Rattle.subdiv_model.specs.Child.{refined_level}
 use Rattle.subdiv_model.specs.Feature.{FaceFacts}
-use Rattle.subdiv_model.specs.Sparse.{Meeting}
+use Rattle.subdiv_model.specs.Sparse.{FacePredicate}
 use Rattle.subdiv_model.specs.Limits.{face_limit}
 use Rattle.subdiv_model.specs.SparseFaults.{points_with_child, present_faces, sparse_levels, sparse_level_faults, sparse_faults}
 use Rattle.subdiv_model.specs.Fault.{Fault, Track, TooLarge, LevelFaces, Overflow, ChaikinOverflow}
@@ -23,26 +23,26 @@ use Rattle.sparse_walk.specs.Faults.{IsFaultAt}
 use Rattle.sparse_walk.proofs.MaskLemmas.{kept, by}
 
 -- halves overflow at a point of the level that has a present child
-abbrev has_overflow : Level → Meeting → ℕ → Bool
-has_overflow base meeting k = list_any (chaikin_overflows_at (refined_level base k)) (points_with_child base meeting (refined_level base k).point_count k)
+abbrev has_overflow : Level → FacePredicate → ℕ → Bool
+has_overflow base predicate k = list_any (chaikin_overflows_at (refined_level base k)) (points_with_child base predicate (refined_level base k).point_count k)
 
 -- in the level after this one few enough faces are present, and no halves overflow
-pub record IsFine (base : Level) (meeting : Meeting) (k : ℕ) : Type 0 where
-  pub few : present_faces base meeting (suc k) ≤ 2 ^ 22
-  pub fine : has_overflow base meeting k ≡ false
+pub record IsFine (base : Level) (predicate : FacePredicate) (k : ℕ) : Type 0 where
+  pub few : present_faces base predicate (suc k) ≤ 2 ^ 22
+  pub fine : has_overflow base predicate k ≡ false
 
-abbrev pub AreFine : Level → Meeting → ℕ → Type 0
-AreFine base meeting depth = (k : ℕ) → k < depth → IsFine base meeting k
+abbrev pub AreFine : Level → FacePredicate → ℕ → Type 0
+AreFine base predicate depth = (k : ℕ) → k < depth → IsFine base predicate k
 
 -- the reason why the level after this one is not made
-abbrev pub HasCause : Level → Meeting → ℕ → Cause → Type 0
-HasCause base meeting k (cause.TooManyFaces count) = (count ≡ present_faces base meeting (suc k)) × (2 ^ 22 < count)
-HasCause base meeting k (cause.Overflow kind.Chaikin) = (present_faces base meeting (suc k) ≤ 2 ^ 22) × (has_overflow base meeting k ≡ true)
-HasCause base meeting k (cause.Overflow kind.Transition) = ⊥
-HasCause base meeting k (cause.Overflow kind.Denominator) = ⊥
-HasCause base meeting k (cause.Overflow kind.Value) = ⊥
-HasCause base meeting k cause.TooManyEntries = ⊥
-HasCause base meeting k cause.Memory = Unit {0}
+abbrev pub HasCause : Level → FacePredicate → ℕ → Cause → Type 0
+HasCause base predicate k (cause.TooManyFaces count) = (count ≡ present_faces base predicate (suc k)) × (2 ^ 22 < count)
+HasCause base predicate k (cause.Overflow kind.Chaikin) = (present_faces base predicate (suc k) ≤ 2 ^ 22) × (has_overflow base predicate k ≡ true)
+HasCause base predicate k (cause.Overflow kind.Transition) = ⊥
+HasCause base predicate k (cause.Overflow kind.Denominator) = ⊥
+HasCause base predicate k (cause.Overflow kind.Value) = ⊥
+HasCause base predicate k cause.TooManyEntries = ⊥
+HasCause base predicate k cause.Memory = Unit {0}
 
 -- Two faults, one before the other.
 
@@ -60,52 +60,52 @@ the-second true b x y others e f = absurd (cc)
 the-second false true x y others e f = refl
 the-second false false x y others e f = absurd (cc)
 
-module _ (channel : Channel) (meeting : Meeting) (track : Track) where
-  none-there : (k : ℕ) → IsFine channel.base meeting k → sparse_level_faults Sharpnesses channel meeting track k ≡ []
+module _ (channel : Channel) (predicate : FacePredicate) (track : Track) where
+  none-there : (k : ℕ) → IsFine channel.base predicate k → sparse_level_faults Sharpnesses channel predicate track k ≡ []
   none-there k is =
-      neither (nat_lt face_limit (present_faces channel.base meeting (suc k))) (has_overflow channel.base meeting k) (TooLarge (LevelFaces (suc k) (present_faces channel.base meeting (suc k)))) (Overflow track (suc k) ChaikinOverflow)
-      (le-ltb face_limit (present_faces channel.base meeting (suc k)) is.few) is.fine
+      neither (nat_lt face_limit (present_faces channel.base predicate (suc k))) (has_overflow channel.base predicate k) (TooLarge (LevelFaces (suc k) (present_faces channel.base predicate (suc k)))) (Overflow track (suc k) ChaikinOverflow)
+      (le-ltb face_limit (present_faces channel.base predicate (suc k)) is.few) is.fine
 
   -- levels that are made have no fault
-  pub sparse-none : (depth : ℕ) → AreFine channel.base meeting depth → sparse_faults Sharpnesses channel meeting track depth ≡ []
-  sparse-none depth are = flat-none (sparse_level_faults Sharpnesses channel meeting track) 0 depth (λ k h. none-there k (are k (omega (arith, h))))
+  pub sparse-none : (depth : ℕ) → AreFine channel.base predicate depth → sparse_faults Sharpnesses channel predicate track depth ≡ []
+  sparse-none depth are = flat-none (sparse_level_faults Sharpnesses channel predicate track) 0 depth (λ k h. none-there k (are k (omega (arith, h))))
 
   -- the first fault of the next level is the first of all
-  sparse-first : (k depth : ℕ) (fault : Fault) → k < depth → AreFine channel.base meeting k → first_of (sparse_level_faults Sharpnesses channel meeting track k) ≡ Some fault
-      → first_of (sparse_faults Sharpnesses channel meeting track depth) ≡ Some fault
+  sparse-first : (k depth : ℕ) (fault : Fault) → k < depth → AreFine channel.base predicate k → first_of (sparse_level_faults Sharpnesses channel predicate track k) ≡ Some fault
+      → first_of (sparse_faults Sharpnesses channel predicate track depth) ≡ Some fault
   sparse-first k depth fault within are here =
-      first-from-0 (sparse_level_faults Sharpnesses channel meeting track) depth k fault within (λ j h. none-there j (are j h)) here
+      first-from-0 (sparse_level_faults Sharpnesses channel predicate track) depth k fault within (λ j h. none-there j (are j h)) here
 
-  large-first : (k depth count : ℕ) → k < depth → AreFine channel.base meeting k → HasCause channel.base meeting k (cause.TooManyFaces count)
-      → first_of (sparse_faults Sharpnesses channel meeting track depth) ≡ Some (TooLarge (LevelFaces (suc k) count))
+  large-first : (k depth count : ℕ) → k < depth → AreFine channel.base predicate k → HasCause channel.base predicate k (cause.TooManyFaces count)
+      → first_of (sparse_faults Sharpnesses channel predicate track depth) ≡ Some (TooLarge (LevelFaces (suc k) count))
   large-first k depth count within are is =
-      let present = present_faces channel.base meeting (suc k) in
+      let present = present_faces channel.base predicate (suc k) in
       sparse-first k depth (TooLarge (LevelFaces (suc k) present)) within are
-      (the-first (nat_lt face_limit present) (TooLarge (LevelFaces (suc k) present)) (level_faults Sharpnesses (sparse_levels channel meeting) track k)
+      (the-first (nat_lt face_limit present) (TooLarge (LevelFaces (suc k) present)) (level_faults Sharpnesses (sparse_levels channel predicate) track k)
       (lt-ltb face_limit present (subst (λ n. 2 ^ 22 < n) is.0 is.1)))
       ∙ ap (λ n. Some (TooLarge (LevelFaces (suc k) n))) (sym is.0)
 
-  chaikin-first : (k depth : ℕ) → k < depth → AreFine channel.base meeting k → HasCause channel.base meeting k (cause.Overflow kind.Chaikin)
-      → first_of (sparse_faults Sharpnesses channel meeting track depth) ≡ Some (Overflow track (suc k) ChaikinOverflow)
+  chaikin-first : (k depth : ℕ) → k < depth → AreFine channel.base predicate k → HasCause channel.base predicate k (cause.Overflow kind.Chaikin)
+      → first_of (sparse_faults Sharpnesses channel predicate track depth) ≡ Some (Overflow track (suc k) ChaikinOverflow)
   chaikin-first k depth within are is =
-      let present = present_faces channel.base meeting (suc k) in
+      let present = present_faces channel.base predicate (suc k) in
       sparse-first k depth (Overflow track (suc k) ChaikinOverflow) within are
-      (the-second (nat_lt face_limit present) (has_overflow channel.base meeting k) (TooLarge (LevelFaces (suc k) present)) (Overflow track (suc k) ChaikinOverflow)
-      (asked_faults Sharpnesses (sparse_levels channel meeting) track k) (le-ltb face_limit present is.0) is.1)
+      (the-second (nat_lt face_limit present) (has_overflow channel.base predicate k) (TooLarge (LevelFaces (suc k) present)) (Overflow track (suc k) ChaikinOverflow)
+      (asked_faults Sharpnesses (sparse_levels channel predicate) track k) (le-ltb face_limit present is.0) is.1)
 
-module _ (base : Level) (meeting : Meeting) (k depth : ℕ) (within : k < depth) (are : AreFine base meeting k) where
+module _ (base : Level) (predicate : FacePredicate) (k depth : ℕ) (within : k < depth) (are : AreFine base predicate k) where
   named : suc k ≡ k + 1
   named = omega arith
 
   -- the next level is the first that is not reached
-  pub refused-first : (cause : Cause) → HasCause base meeting k cause → IsFaultAt Sharpnesses base meeting depth (k + 1) cause
+  pub refused-first : (cause : Cause) → HasCause base predicate k cause → IsFaultAt Sharpnesses base predicate depth (k + 1) cause
   refused-first (cause.TooManyFaces count) is = λ channel same track.
-      large-first channel meeting track k depth count within (subst (λ b. AreFine b meeting k) (sym same) are)
-      (subst (λ b. HasCause b meeting k (cause.TooManyFaces count)) (sym same) is)
+      large-first channel predicate track k depth count within (subst (λ b. AreFine b predicate k) (sym same) are)
+      (subst (λ b. HasCause b predicate k (cause.TooManyFaces count)) (sym same) is)
       ∙ ap (λ n. Some (TooLarge (LevelFaces n count))) named
   refused-first (cause.Overflow kind.Chaikin) is = λ channel same track.
-      chaikin-first channel meeting track k depth within (subst (λ b. AreFine b meeting k) (sym same) are)
-      (subst (λ b. HasCause b meeting k (cause.Overflow kind.Chaikin)) (sym same) is)
+      chaikin-first channel predicate track k depth within (subst (λ b. AreFine b predicate k) (sym same) are)
+      (subst (λ b. HasCause b predicate k (cause.Overflow kind.Chaikin)) (sym same) is)
       ∙ ap (λ n. Some (Overflow track n ChaikinOverflow)) named
   refused-first (cause.Overflow kind.Transition) is = absurd is
   refused-first (cause.Overflow kind.Denominator) is = absurd is
@@ -116,23 +116,23 @@ module _ (base : Level) (meeting : Meeting) (k depth : ℕ) (within : k < depth)
 -- The results of a step in the terms of the definitions.
 
 module _ (test : FaceFacts → Bool) (t : SparseTopology) (of : SparseOf test t) where
-  counted : length (places_for test t) ≡ present_faces of.base of.meeting (suc t.depth)
+  counted : length (places_for test t) ≡ present_faces of.base of.predicate (suc t.depth)
   counted = faces-counted (kept test t of) (by test t of)
 
-  pub fine-here : (step : SparseChild) → IsRefined test t step → IsFine of.base of.meeting t.depth
+  pub fine-here : (step : SparseChild) → IsRefined test t step → IsFine of.base of.predicate t.depth
   fine-here step refined = record {
     few = subst (λ n. n ≤ 2 ^ 22) counted refined.few;
-    fine = go (has_overflow of.base of.meeting t.depth) refl;
+    fine = go (has_overflow of.base of.predicate t.depth) refl;
   }
     where
-      go : (b : Bool) → has_overflow of.base of.meeting t.depth ≡ b → has_overflow of.base of.meeting t.depth ≡ false
+      go : (b : Bool) → has_overflow of.base of.predicate t.depth ≡ b → has_overflow of.base of.predicate t.depth ≡ false
       go false e = e
       go true e =
           let found = overflows-there (kept test t of) (by test t of) e in
           let fine = refined.fine found.0 found.1.exists found.1.on in
           absurd (cc (fine, found.1.overflows))
 
-  pub cause-here : (cause : Cause) → IsSparseCause test t cause → HasCause of.base of.meeting t.depth cause
+  pub cause-here : (cause : Cause) → IsSparseCause test t cause → HasCause of.base of.predicate t.depth cause
   cause-here (cause.TooManyFaces count) is = (is.0 ∙ counted, is.1)
   cause-here (cause.Overflow kind.Chaikin) is = (subst (λ n. n ≤ 2 ^ 22) counted is.few, overflows-here (kept test t of) (by test t of) is.v is.overflows)
   cause-here (cause.Overflow kind.Transition) is = is

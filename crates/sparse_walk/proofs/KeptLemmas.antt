@@ -5,7 +5,7 @@ use Rattle.std.proofs.lemmas.List.{length-map, get_or-map, get_or_push, get_or_a
 use Rattle.std.proofs.lemmas.List.FromFn.{get_or-map-range_with_len, length-map-range_with_len}
 use Rattle.subdiv_model.specs.Level.{Level}
 use Rattle.subdiv_model.specs.Feature.{FaceFacts}
-use Rattle.subdiv_model.specs.Sparse.{meeting_to}
+use Rattle.subdiv_model.specs.Sparse.{predicate_to}
 use Rattle.subdiv_model.specs.SparseText.{WrittenLevel, written_level}
 use Rattle.level_topology.specs.Topology.{Topology}
 use Rattle.level_topology.specs.Child.{ChildTopology}
@@ -32,7 +32,7 @@ module _ {C : Type 0} (Holds : ℕ → SparseTopology → C → ℕ → Type 0) 
     pub steps : ℕ
     pub reached : levels.IsReached test base depth k sparse
     pub holds : Holds k sparse level.carried steps
-    pub written : level.faces ≡ written_level base (meeting_to test base depth) k
+    pub written : level.faces ≡ written_level base (predicate_to test base depth) k
 
   -- the first levels are kept, from 0 on
   pub record AreKept (count : ℕ) (kept : List (KeptLevel C)) : Type 0 where
@@ -61,7 +61,7 @@ module _ {C : Type 0} (Holds : ℕ → SparseTopology → C → ℕ → Type 0) 
   all-written kept are =
       let count = length-map kept faces_of in
       same_lists (map faces_of kept) (written_to base test depth)
-      (count ∙ are.count_is ∙ sym (length-map-range_with_len (written_level base (meeting_to test base depth)) 0 (depth + 1)))
+      (count ∙ are.count_is ∙ sym (length-map-range_with_len (written_level base (predicate_to test base depth)) 0 (depth + 1)))
       (λ k d h. let below : k < depth + 1 = omega (arith, h, count, are.count_is) in each k d below)
     where
       each : (k : ℕ) (d : WrittenLevel) → k < depth + 1 → get_or (map faces_of kept) k d ≡ get_or (written_to base test depth) k d
@@ -69,7 +69,7 @@ module _ {C : Type 0} (Holds : ℕ → SparseTopology → C → ℕ → Type 0) 
           let none : KeptLevel C = none_of k below in
           get_or-map faces_of kept k none d (omega (arith, below, are.count_is))
           ∙ (are.each k none below).written
-          ∙ sym (get_or-map-range_with_len (written_level base (meeting_to test base depth)) 0 (depth + 1) k k d below (omega arith))
+          ∙ sym (get_or-map-range_with_len (written_level base (predicate_to test base depth)) 0 (depth + 1) k k d below (omega arith))
         where
           first : (xs : List (KeptLevel C)) → 0 < length xs → KeptLevel C
           first [] h = absurd (omega (arith, h))

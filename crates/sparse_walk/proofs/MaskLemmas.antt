@@ -19,7 +19,7 @@ use Rattle.level_topology.proofs.LawLemmas.{edge-few}
 use Rattle.mask_rules.specs.Masks.{is_at_least_one}
 use Rattle.child_masks.specs.Masks.{has_origin, CanRefine}
 use Rattle.sparse_laws.specs.NextSparse.{next_points, vertices_of}
-use Rattle.sparse_laws.specs.Laws.{Kept, AgreeingTest, HasSharpBoundary}
+use Rattle.sparse_laws.specs.Laws.{SparseRefinement, AgreeingTest, HasSharpBoundary}
 use Rattle.sparse_laws.proofs.SelectedLemmas.{among-all}
 use Rattle.sparse_laws.proofs.BoundaryLemmas.{sharp-at-complete}
 use Rattle.sparse_laws.proofs.CornerLemmas.{vertices-old}
@@ -44,8 +44,8 @@ two-faces n h low high = grind (arith, nat_tests)
 
 module _ (test : FaceFacts → Bool) (t : SparseTopology) (of : SparseOf test t) where
   -- the level as one of the definitions, and the test that selects
-  abbrev pub kept : Kept
-  kept = record { base = of.base; meeting = of.meeting; sparse = level_of t; over = of.over; is = of.is }
+  abbrev pub kept : SparseRefinement
+  kept = record { base = of.base; predicate = of.predicate; sparse = level_of t; over = of.over; is = of.is }
 
   abbrev pub by : AgreeingTest kept
   by = record { test = test; agrees = of.agrees }

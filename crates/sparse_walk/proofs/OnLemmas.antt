@@ -7,14 +7,14 @@ use Rattle.subdiv_model.specs.Sparse.{is_on}
 use Rattle.mesh_laws.proofs.FanLemmas.{any-number}
 use Rattle.sparse_laws.specs.NextSparse.{next_points, vertex_at, vertices_of}
 use Rattle.sparse_laws.specs.Selected.{is_selected_in}
-use Rattle.sparse_laws.specs.Laws.{Kept, AgreeingTest, chosen_by}
+use Rattle.sparse_laws.specs.Laws.{SparseRefinement, AgreeingTest, chosen_by}
 use Rattle.sparse_laws.proofs.FactLemmas.{kept-pass}
 use Rattle.sparse_laws.proofs.SelectedLemmas.{among-all}
 use Rattle.sparse_laws.proofs.CornerLemmas.{own-vertex}
 use Rattle.sparse_laws.proofs.NextSparseLemmas.{selection}
 use Rattle.sparse_laws.proofs.OverflowLemmas.{child-corner}
 
-module _ (kept : Kept) (by : AgreeingTest kept) where
+module _ (kept : SparseRefinement) (by : AgreeingTest kept) where
   abbrev polygons : List Polygon
   polygons = kept.sparse.level.polygons
 

@@ -7,7 +7,7 @@ use Rattle.std.proofs.Math.ListN.{get_or-eq_default}
 use Rattle.subdiv_model.specs.Lists.{places_from}
 use Rattle.subdiv_model.specs.Level.{Level}
 use Rattle.subdiv_model.specs.Feature.{FaceFacts}
-use Rattle.subdiv_model.specs.Sparse.{Meeting, meeting_of, meeting_to}
+use Rattle.subdiv_model.specs.Sparse.{FacePredicate, predicate_of, predicate_to}
 use Rattle.subdiv_model.specs.SparseFaults.{present_faces}
 use Rattle.subdiv_model.specs.SparseText.{written_level}
 use Rattle.subdiv_model.specs.Channel.{Sharpnesses}
@@ -43,7 +43,7 @@ marked-from test a (suc n) = go (test a) refl (marked-from test (a + 1) n)
 
 -- the written form of a level, once its selected faces are known
 here-written : (test : FaceFacts → Bool) (t : SparseTopology) (of : SparseOf test t) (step : SparseChild) → IsRefined test t step
-    → written_here (level_of t) (marked step.selected) ≡ written_level of.base of.meeting t.depth
+    → written_here (level_of t) (marked step.selected) ≡ written_level of.base of.predicate t.depth
 here-written test t of step refined =
     ap (λ marks. written_here (level_of t) (marked marks)) refined.selected
     ∙ ap (written_here (level_of t)) (marked-from (is_selected_in test (level_of t)) 0 (length t.topology.level.polygons))
@@ -54,14 +54,14 @@ abbrev pub topology_of : Walked → Topology
 topology_of walked = walked.sparse.topology
 
 module _ (test : FaceFacts → Bool) (base : Level) (depth : ℕ) where
-  abbrev meeting : Meeting
-  meeting = meeting_to test base depth
+  abbrev predicate : FacePredicate
+  predicate = predicate_to test base depth
 
   -- the level after k steps, none of which was refused
   pub record IsReached (k : ℕ) (t : SparseTopology) : Type 0 where
     pub deep : t.depth ≡ k
     pub stands : StandsFor test base t
-    pub fine : AreFine base meeting k
+    pub fine : AreFine base predicate k
 
   pub reached-none : (t : SparseTopology) → t.depth ≡ 0 → StandsFor test base t → IsReached 0 t
   reached-none t deep stands = record { deep = deep; stands = stands; fine = λ k h. absurd (omega (arith, h)) }
@@ -69,15 +69,15 @@ module _ (test : FaceFacts → Bool) (base : Level) (depth : ℕ) where
   module _ (k : ℕ) (t : SparseTopology) (is : IsReached k t) (within : k < depth) where
     -- by the predicate to the depth the level is one of the definitions
     abbrev pub sparse-in : SparseOf test t
-    sparse-in = sparse-by test base t is.stands meeting (λ j h. agrees-to test base depth j (omega (arith, h, is.deep, within)))
+    sparse-in = sparse-by test base t is.stands predicate (λ j h. agrees-to test base depth j (omega (arith, h, is.deep, within)))
 
     -- the number of present faces of the next level
-    pub next-counted : length (places_for test t) ≡ present_faces base meeting (suc k)
-    next-counted = faces-counted (kept test t sparse-in) (by test t sparse-in) ∙ ap (λ n. present_faces base meeting (suc n)) is.deep
+    pub next-counted : length (places_for test t) ≡ present_faces base predicate (suc k)
+    next-counted = faces-counted (kept test t sparse-in) (by test t sparse-in) ∙ ap (λ n. present_faces base predicate (suc n)) is.deep
 
     -- the written form of the level, once the next one is made
-    pub level-written : (step : SparseChild) → IsRefined test t step → written_here (level_of t) (marked step.selected) ≡ written_level base meeting k
-    level-written step refined = here-written test t sparse-in step refined ∙ ap (written_level base meeting) is.deep
+    pub level-written : (step : SparseChild) → IsRefined test t step → written_here (level_of t) (marked step.selected) ≡ written_level base predicate k
+    level-written step refined = here-written test t sparse-in step refined ∙ ap (written_level base predicate) is.deep
 
     -- one level more
     pub reached-next : (step : SparseChild) → IsRefined test t step → IsReached (k + 1) (next_of step)
@@ -87,23 +87,23 @@ module _ (test : FaceFacts → Bool) (base : Level) (depth : ℕ) where
       fine = λ j h. go j h (nat_lt j k) refl;
     }
       where
-        go : (j : ℕ) → j < k + 1 → (b : Bool) → nat_lt j k ≡ b → IsFine base meeting j
+        go : (j : ℕ) → j < k + 1 → (b : Bool) → nat_lt j k ≡ b → IsFine base predicate j
         go j h true e = is.fine j (grind (arith, nat_tests))
         go j h false e =
             let same : k ≡ j = grind (arith, nat_tests) in
-            subst (IsFine base meeting) same (subst (IsFine base meeting) is.deep (fine-here test t sparse-in step refined))
+            subst (IsFine base predicate) same (subst (IsFine base predicate) is.deep (fine-here test t sparse-in step refined))
 
     -- if the step refuses the next level, its fault is the first of all
-    pub fault-here : (cause : Cause) → IsSparseCause test t cause → IsFaultAt Sharpnesses base meeting depth (k + 1) cause
+    pub fault-here : (cause : Cause) → IsSparseCause test t cause → IsFaultAt Sharpnesses base predicate depth (k + 1) cause
     fault-here cause refused =
-        refused-first base meeting k depth within is.fine cause (subst (λ n. HasCause base meeting n cause) is.deep (cause-here test t sparse-in cause refused))
+        refused-first base predicate k depth within is.fine cause (subst (λ n. HasCause base predicate n cause) is.deep (cause-here test t sparse-in cause refused))
 
   -- the written form of the last level, which has no selected face
-  pub last-written : (t : SparseTopology) → IsReached depth t → written_here (level_of t) [] ≡ written_level base meeting depth
+  pub last-written : (t : SparseTopology) → IsReached depth t → written_here (level_of t) [] ≡ written_level base predicate depth
   last-written t is =
-      written-last (record { base = base; meeting = meeting; sparse = level_of t; over = is.stands.over; is = is.stands.is meeting (λ j h. agrees-to test base depth j (omega (arith, h, is.deep))) })
-      (get_or-eq_default meeting [] (omega (arith, is.deep, length-map-range_with_len (meeting_of test base) 0 depth)))
-      ∙ ap (written_level base meeting) is.deep
+      written-last (record { base = base; predicate = predicate; sparse = level_of t; over = is.stands.over; is = is.stands.is predicate (λ j h. agrees-to test base depth j (omega (arith, h, is.deep))) })
+      (get_or-eq_default predicate [] (omega (arith, is.deep, length-map-range_with_len (predicate_of test base) 0 depth)))
+      ∙ ap (written_level base predicate) is.deep
 
   -- a step of the walk
   pub made-next : (k : ℕ) (from : Walked) (child : ChildTopology) (next : Walked) (old new : ℕ) → k < depth → IsReached k from.sparse → IsMade test from child next old new → IsReached (k + 1) next.sparse

@@ -5,7 +5,7 @@ use Rattle.std.proofs.lemmas.List.FromFn.{map-range_with_len_more}
 use Rattle.std.proofs.lemmas.List.Sums.{sum_by_push}
 use Rattle.subdiv_model.specs.Level.{Level}
 use Rattle.subdiv_model.specs.Feature.{FaceFacts}
-use Rattle.subdiv_model.specs.Sparse.{Meeting, meeting_to}
+use Rattle.subdiv_model.specs.Sparse.{FacePredicate, predicate_to}
 use Rattle.subdiv_model.specs.SparseFaults.{present_faces}
 use Rattle.subdiv_model.specs.SparseText.{WrittenLevel}
 use Rattle.subdiv_model.specs.Channel.{Sharpnesses}
@@ -59,8 +59,8 @@ pub sum-within : (f : ℕ → ℕ) (k depth : ℕ) → k ≤ depth → sum_by f 
 sum-within f k depth h = let whole : k + (depth - k) ≡ depth = omega (arith, h) in omega (arith, ap (λ n. sum_by f (range_with_len 1 n)) whole, sum-rises f k (depth - k))
 
 module _ {C : Type 0} (test : FaceFacts → Bool) (base : Level) (depth : ℕ) (start : Place Walked C (KeptSoFar C)) where
-  abbrev meeting : Meeting
-  meeting = meeting_to test base depth
+  abbrev predicate : FacePredicate
+  predicate = predicate_to test base depth
 
   abbrev Follow : Topology → ChildTopology → C → C → ℕ → ℕ → Type 0
   Follow t child before next old new = new ≡ old
@@ -70,14 +70,14 @@ module _ {C : Type 0} (test : FaceFacts → Bool) (base : Level) (depth : ℕ) (
 
   -- at most one step is taken for each face that is present so far
   abbrev Holds : ℕ → SparseTopology → C → ℕ → Type 0
-  Holds k t carried steps = (start.steps ≤ steps) × (steps ≤ start.steps + sum_by (present_faces base meeting) (range_with_len 1 k))
+  Holds k t carried steps = (start.steps ≤ steps) × (steps ≤ start.steps + sum_by (present_faces base predicate) (range_with_len 1 k))
 
   pub follows : (k : ℕ) (from next : Reached Walked C) (old new : ℕ) → k < depth → levels.IsReached test base depth k from.level.sparse → Holds k from.level.sparse from.carried old
       → IsNext topology_of (IsMade test) Follow from next old new → Holds (k + 1) next.level.sparse next.carried new
   follows k from next old new within is holds made =
       let count = levels.next-counted test base depth k from.level.sparse is within in (
         omega (arith, holds.0, made.made.steps.later, made.followed),
-        omega (arith, holds.1, made.made.steps.most, made.followed, count, sum-more (present_faces base meeting) k),
+        omega (arith, holds.1, made.made.steps.most, made.followed, count, sum-more (present_faces base predicate) k),
       )
 
   abbrev pub IsAt : ℕ → Place Walked C (KeptSoFar C) → Type 0
@@ -98,7 +98,7 @@ module _ {C : Type 0} (test : FaceFacts → Bool) (base : Level) (depth : ℕ) (
 
     pub no-fault : (end : Place Walked C (KeptSoFar C)) → IsWalked topology_of (IsMade test) Follow Keeps start depth end → HasNoSparseFault base test depth
     no-fault end walked = λ channel same track.
-        sparse-none channel meeting track depth (subst (λ b. AreFine b meeting depth) (sym same) (walked-to depth end (omega arith) walked).reached.fine)
+        sparse-none channel predicate track depth (subst (λ b. AreFine b predicate depth) (sym same) (walked-to depth end (omega arith) walked).reached.fine)
 
     pub all-steps : (end : Place Walked C (KeptSoFar C)) → IsWalked topology_of (IsMade test) Follow Keeps start depth end → AreSparseSteps base test depth start.steps end.steps
     all-steps end walked = let holds = (walked-to depth end (omega arith) walked).holds in record { most = holds.1; later = holds.0 }
@@ -107,10 +107,10 @@ module _ {C : Type 0} (test : FaceFacts → Bool) (base : Level) (depth : ℕ) (
         → new ≤ start.steps + present_to base test depth
     bound k new last within is h =
         let count = levels.next-counted test base depth k last.reached.level.sparse is.reached within in
-        omega (arith, is.holds.1, h, count, sum-more (present_faces base meeting) k, sum-within (present_faces base meeting) (k + 1) depth (omega (arith, within)))
+        omega (arith, is.holds.1, h, count, sum-more (present_faces base predicate) k, sum-within (present_faces base predicate) (k + 1) depth (omega (arith, within)))
 
     abbrev Stopped : ℕ → Cause → ℕ → Type 0
-    Stopped number cause new = IsFaultAt Sharpnesses base meeting depth number cause × AreSparseSteps base test depth start.steps new
+    Stopped number cause new = IsFaultAt Sharpnesses base predicate depth number cause × AreSparseSteps base test depth start.steps new
 
     stopped-at : (k : ℕ) (last : Place Walked C (KeptSoFar C)) (new : ℕ) → k < depth → IsAt k last → (cause : Cause)
         → IsCause topology_of (IsMade test) (IsRefused test) Follow Fail last.reached cause last.steps new → Stopped (k + 1) cause new
@@ -120,7 +120,7 @@ module _ {C : Type 0} (test : FaceFacts → Bool) (base : Level) (depth : ℕ) (
     )
     stopped-at k last new within is cause (inr (inl left)) = absurd left.fails
     stopped-at k last new within is cause (inr (inr without)) = (
-      subst (IsFaultAt Sharpnesses base meeting depth (k + 1)) (sym without.memory) tt,
+      subst (IsFaultAt Sharpnesses base predicate depth (k + 1)) (sym without.memory) tt,
       record {
         most = bound k new last within is (omega (arith, without.made.made.steps.most, without.made.followed));
         later = omega (arith, is.holds.0, without.made.made.steps.later, without.made.followed);

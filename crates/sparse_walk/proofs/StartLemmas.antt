@@ -30,7 +30,7 @@ module _ (test : feature.FaceFacts → Bool) (base : Topology) (is : IsSparseBas
   stands-base = record {
     over = first-of-six _ _ _ _ _ _ formed.formed;
     boundary = record { simple = formed.simple; distinct = formed.sides_once; sharp = is.boundary };
-    is = λ meeting agrees. subst (IsSparse base.level meeting) same-base (base-sparse base.level meeting (first-of-six _ _ _ _ _ _ formed.formed));
+    is = λ predicate agrees. subst (IsSparse base.level predicate) same-base (base-sparse base.level predicate (first-of-six _ _ _ _ _ _ formed.formed));
   }
 
   -- ten levels can be made after it, or fewer

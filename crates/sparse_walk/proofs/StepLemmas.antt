@@ -6,7 +6,7 @@ use Rattle.std.proofs.lemmas.List.FromFn.{get_or-map-range_with_len}
 use Rattle.subdiv_model.specs.Level.{Level}
 use Rattle.subdiv_model.specs.Feature as feature
 use Rattle.subdiv_model.specs.Mask.{CatmullClark}
-use Rattle.subdiv_model.specs.Sparse.{Meeting, meeting_of, meeting_to}
+use Rattle.subdiv_model.specs.Sparse.{FacePredicate, predicate_of, predicate_to}
 use Rattle.level_topology.specs.Topology.{IsTopology}
 use Rattle.level_topology.specs.declared.facts.FaceFacts.{FaceFacts}
 use Rattle.child_masks.specs.Masks.{CanRefine}
@@ -41,30 +41,30 @@ sparse-cause test t (Chaikin v) is = record { few = is.few; v = v; overflows = i
 sparse-cause test t Memory is = tt
 
 -- the predicate of a test agrees with the test on the levels before its depth
-pub agrees-to : (test : feature.FaceFacts → Bool) (base : Level) (depth k : ℕ) → k < depth → Agrees test base (meeting_to test base depth) k
-agrees-to test base depth k within = get_or-map-range_with_len (meeting_of test base) 0 depth k k [] within (omega arith)
+pub agrees-to : (test : feature.FaceFacts → Bool) (base : Level) (depth k : ℕ) → k < depth → Agrees test base (predicate_to test base depth) k
+agrees-to test base depth k within = get_or-map-range_with_len (predicate_of test base) 0 depth k k [] within (omega arith)
 
 module _ (test : feature.FaceFacts → Bool) (base : Level) (t : SparseTopology) (stands : StandsFor test base t) where
   -- by a predicate that agrees with the test on the level too, it is a sparse level of the definitions
-  abbrev pub sparse-by : (meeting : Meeting) → AgreesBefore test base meeting (suc t.depth) → SparseOf test t
-  sparse-by meeting agrees = record {
+  abbrev pub sparse-by : (predicate : FacePredicate) → AgreesBefore test base predicate (suc t.depth) → SparseOf test t
+  sparse-by predicate agrees = record {
     base = base;
-    meeting = meeting;
+    predicate = predicate;
     over = stands.over;
-    is = stands.is meeting (λ k h. agrees k (omega (arith, h)));
+    is = stands.is predicate (λ k h. agrees k (omega (arith, h)));
     agrees = agrees t.depth (omega arith);
   }
 
   abbrev pub sparse-here : SparseOf test t
-  sparse-here = sparse-by (meeting_to test base (suc t.depth)) (λ k h. agrees-to test base (suc t.depth) k h)
+  sparse-here = sparse-by (predicate_to test base (suc t.depth)) (λ k h. agrees-to test base (suc t.depth) k h)
 
   -- the next level is a sparse level of the definitions too
   pub stands-next : (step : SparseChild) → IsRefined test t step → StandsFor test base (next_of step)
   stands-next step refined = record {
     over = stands.over;
     boundary = stands.boundary;
-    is = λ meeting agrees.
-        let of = sparse-by meeting (λ k h. agrees k (omega (arith, h, refined.next.depth))) in
+    is = λ predicate agrees.
+        let of = sparse-by predicate (λ k h. agrees k (omega (arith, h, refined.next.depth))) in
         next-sparse (kept test t of) (record { by = by test t of; next = level_of (next_of step); is_next = refined.next });
   }
 

@@ -5,7 +5,7 @@ use Rattle.std.specs.Borrow.{Bor}
 use Rattle.subdiv_model.specs.Polygons.{is_over}
 use Rattle.subdiv_model.specs.Level.{Level}
 use Rattle.subdiv_model.specs.Feature as feature
-use Rattle.subdiv_model.specs.Sparse.{Meeting}
+use Rattle.subdiv_model.specs.Sparse.{FacePredicate}
 use Rattle.level_topology.specs.Child.{ChildTopology}
 use Rattle.level_topology.specs.declared.facts.FaceFacts.{FaceFacts}
 use Rattle.feature_select.specs.Rule.{AnswersTest}
@@ -20,14 +20,14 @@ use Rattle.level_walk.specs.declared.fault.OverflowKind.TheVariants as kind
 use Rattle.sparse_walk.specs.View.{Walked, walked_after}
 
 -- a predicate agrees with a test on all levels before a depth
-abbrev pub AgreesBefore : (feature.FaceFacts → Bool) → Level → Meeting → ℕ → Type 0
-AgreesBefore test base meeting depth = (k : ℕ) → k < depth → Agrees test base meeting k
+abbrev pub AgreesBefore : (feature.FaceFacts → Bool) → Level → FacePredicate → ℕ → Type 0
+AgreesBefore test base predicate depth = (k : ℕ) → k < depth → Agrees test base predicate k
 
 -- the level is the sparse level of the definitions, for each predicate that agrees with the test on the levels before
 pub record StandsFor (test : feature.FaceFacts → Bool) (base : Level) (t : SparseTopology) : Type 0 where
   pub over : IsTrue (is_over base.point_count base.polygons)
   pub boundary : HasSharpBoundary base
-  pub is : (meeting : Meeting) → AgreesBefore test base meeting t.depth → IsSparse base meeting (level_of t)
+  pub is : (predicate : FacePredicate) → AgreesBefore test base predicate t.depth → IsSparse base predicate (level_of t)
 
 -- This many levels can be made after the level: it is a sparse level of some base, and none of them is deeper than 10. The
 -- rule accepts its faces.

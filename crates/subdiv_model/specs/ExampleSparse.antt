@@ -5,15 +5,15 @@ use Rattle.subdiv_model.specs.Sharpness.{Infinite}
 use Rattle.subdiv_model.specs.Level.{Level}
 use Rattle.subdiv_model.specs.Examples.{tagged_level}
 use Rattle.subdiv_model.specs.Feature.{is_feature, is_selectable}
-use Rattle.subdiv_model.specs.Sparse.{Meeting, meeting_to, present, present_points}
+use Rattle.subdiv_model.specs.Sparse.{FacePredicate, predicate_to, present, present_points}
 
 -- the predicate of the features of a level to a depth
-abbrev pub features : Level → ℕ → Meeting
-features base depth = meeting_to is_feature base depth
+abbrev pub features : Level → ℕ → FacePredicate
+features base depth = predicate_to is_feature base depth
 
 -- the predicate of all faces of a level to a depth
-abbrev pub all_faces : Level → ℕ → Meeting
-all_faces base depth = meeting_to is_selectable base depth
+abbrev pub all_faces : Level → ℕ → FacePredicate
+all_faces base depth = predicate_to is_selectable base depth
 
 -- the numbers of present points and faces at a depth, where features are selected
 abbrev pub counts_at : Level → ℕ → ℕ × ℕ

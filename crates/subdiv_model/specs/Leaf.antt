@@ -5,7 +5,7 @@ use Rattle.std.specs.List.{filter, flat_map, range_with_len}
 use Rattle.subdiv_model.specs.Polygons.{polygon_at, is_among}
 use Rattle.subdiv_model.specs.Level.{Level, is_hole}
 use Rattle.subdiv_model.specs.Child.{refined_level}
-use Rattle.subdiv_model.specs.Sparse.{Meeting, child_number, selected}
+use Rattle.subdiv_model.specs.Sparse.{FacePredicate, child_number, selected}
 use Rattle.subdiv_model.specs.Fault.{Fault, Place, NoFace, NoCorner, IsHole}
 use Rattle.subdiv_model.specs.Channel.{fault_where}
 use Rattle.subdiv_model.specs.Fractions.{lowest}
@@ -68,17 +68,17 @@ child_at grid level at c = record {
 
 -- The leaves that contain a location, at most `further` levels later. A leaf is a face that is not selected, or a face of the
 -- last level. The leaves are in the order of their paths, corner by corner from the location.
-abbrev pub leaves_within : ℕ → ℕ → Level → Meeting → Location → List Location
-leaves_within grid zero base meeting at = at ∷ []
-leaves_within grid (suc further) base meeting at =
-    if is_among (selected base meeting at.level) at.number
-    then flat_map (λ c. leaves_within grid further base meeting (child_at grid (refined_level base at.level) at c))
+abbrev pub leaves_within : ℕ → ℕ → Level → FacePredicate → Location → List Location
+leaves_within grid zero base predicate at = at ∷ []
+leaves_within grid (suc further) base predicate at =
+    if is_among (selected base predicate at.level) at.number
+    then flat_map (λ c. leaves_within grid further base predicate (child_at grid (refined_level base at.level) at c))
     (corners_with grid (refined_level base at.level) at)
     else at ∷ []
 
 -- the leaf of a location among the levels to a depth: the first leaf that contains it
-abbrev pub leaf_of : ℕ → ℕ → Level → Meeting → Location → Location
-leaf_of grid depth base meeting at = get_or (leaves_within grid depth base meeting at) 0 at
+abbrev pub leaf_of : ℕ → ℕ → Level → FacePredicate → Location → Location
+leaf_of grid depth base predicate at = get_or (leaves_within grid depth base predicate at) 0 at
 
 -- a face of this size has places with this corner
 abbrev pub is_corner_of : ℕ → ℕ → Bool

@@ -9,12 +9,12 @@ use Rattle.subdiv_model.specs.Child.{refined_level}
 use Rattle.subdiv_model.specs.Feature.{FaceFacts, facts_of}
 
 -- A predicate on faces, as data: for each level the numbers of the faces that meet it, ascending.
-abbrev pub Meeting : Type 0
-Meeting = List (List ℕ)
+abbrev pub FacePredicate : Type 0
+FacePredicate = List (List ℕ)
 
 -- the face meets the predicate at this depth
-abbrev pub meets : Meeting → ℕ → ℕ → Bool
-meets meeting depth face = is_among (get_or meeting depth []) face
+abbrev pub meets : FacePredicate → ℕ → ℕ → Bool
+meets predicate depth face = is_among (get_or predicate depth []) face
 
 -- the vertices of all corners, face by face; child faces have the numbers of their corners in this list
 abbrev pub corners_of : List Polygon → List ℕ
@@ -37,45 +37,45 @@ abbrev pub is_on : List Polygon → List ℕ → ℕ → Bool
 is_on polygons faces v = list_any (λ face. has_corner v (polygon_at polygons face)) faces
 
 -- the listed faces that meet the predicate and are no holes
-abbrev pub chosen : Level → Meeting → ℕ → List ℕ → List ℕ
-chosen level meeting depth faces = filter (λ face. meets meeting depth face && not (is_hole level face)) faces
+abbrev pub chosen : Level → FacePredicate → ℕ → List ℕ → List ℕ
+chosen level predicate depth faces = filter (λ face. meets predicate depth face && not (is_hole level face)) faces
 
 -- the selected faces at a depth, from all faces of level 0, then from the children of selected faces
-abbrev pub selected : Level → Meeting → ℕ → List ℕ
-selected base meeting zero = chosen base meeting zero (range_with_len 0 (length base.polygons))
-selected base meeting (suc depth) =
-    chosen (refined_level base (suc depth)) meeting (suc depth) (children_of (refined_level base depth).polygons (selected base meeting depth))
+abbrev pub selected : Level → FacePredicate → ℕ → List ℕ
+selected base predicate zero = chosen base predicate zero (range_with_len 0 (length base.polygons))
+selected base predicate (suc depth) =
+    chosen (refined_level base (suc depth)) predicate (suc depth) (children_of (refined_level base depth).polygons (selected base predicate depth))
 
 -- the present faces at a depth, ascending: all faces of level 0, then the child faces at vertices of selected faces
-abbrev pub present : Level → Meeting → ℕ → List ℕ
-present base meeting zero = range_with_len 0 (length base.polygons)
-present base meeting (suc depth) =
+abbrev pub present : Level → FacePredicate → ℕ → List ℕ
+present base predicate zero = range_with_len 0 (length base.polygons)
+present base predicate (suc depth) =
     let polygons = (refined_level base depth).polygons in
-    places (is_on polygons (selected base meeting depth)) (corners_of polygons)
+    places (is_on polygons (selected base predicate depth)) (corners_of polygons)
 
 -- the polygons of the present faces
-abbrev pub present_polygons : Level → Meeting → ℕ → List Polygon
-present_polygons base meeting depth = map (polygon_at (refined_level base depth).polygons) (present base meeting depth)
+abbrev pub present_polygons : Level → FacePredicate → ℕ → List Polygon
+present_polygons base predicate depth = map (polygon_at (refined_level base depth).polygons) (present base predicate depth)
 
 -- the present points at a depth: all points of level 0, then the corners of present faces, by first appearance
-abbrev pub present_points : Level → Meeting → ℕ → List ℕ
-present_points base meeting zero = range_with_len 0 base.point_count
-present_points base meeting (suc depth) = each_once_by nat_eq (corners_of (present_polygons base meeting (suc depth)))
+abbrev pub present_points : Level → FacePredicate → ℕ → List ℕ
+present_points base predicate zero = range_with_len 0 base.point_count
+present_points base predicate (suc depth) = each_once_by nat_eq (corners_of (present_polygons base predicate (suc depth)))
 
 -- the inner faces at a depth: all faces of level 0, then the children of selected faces
-abbrev pub inner : Level → Meeting → ℕ → List ℕ
-inner base meeting zero = range_with_len 0 (length base.polygons)
-inner base meeting (suc depth) = children_of (refined_level base depth).polygons (selected base meeting depth)
+abbrev pub inner : Level → FacePredicate → ℕ → List ℕ
+inner base predicate zero = range_with_len 0 (length base.polygons)
+inner base predicate (suc depth) = children_of (refined_level base depth).polygons (selected base predicate depth)
 
 -- all faces at a point are present
-abbrev pub is_whole : Level → Meeting → ℕ → ℕ → Bool
-is_whole base meeting depth v = list_all (is_among (present base meeting depth)) (faces_at (refined_level base depth) v)
+abbrev pub is_whole : Level → FacePredicate → ℕ → ℕ → Bool
+is_whole base predicate depth v = list_all (is_among (present base predicate depth)) (faces_at (refined_level base depth) v)
 
 -- the faces at a depth whose facts pass the test
-abbrev pub meeting_of : (FaceFacts → Bool) → Level → ℕ → List ℕ
-meeting_of test base depth =
+abbrev pub predicate_of : (FaceFacts → Bool) → Level → ℕ → List ℕ
+predicate_of test base depth =
     let level = refined_level base depth in filter (λ face. test (facts_of level depth face)) (range_with_len 0 (length level.polygons))
 
 -- the predicate of a test for a number of levels
-abbrev pub meeting_to : (FaceFacts → Bool) → Level → ℕ → Meeting
-meeting_to test base depth = map (meeting_of test base) (range_with_len 0 depth)
+abbrev pub predicate_to : (FaceFacts → Bool) → Level → ℕ → FacePredicate
+predicate_to test base depth = map (predicate_of test base) (range_with_len 0 depth)

@@ -6,7 +6,7 @@ use Rattle.subdiv_model.specs.Lists.{each_once_by}
 use Rattle.subdiv_model.specs.Polygons.{Polygon, polygon_at, is_among}
 use Rattle.subdiv_model.specs.Level.{Level, is_hole}
 use Rattle.subdiv_model.specs.Child.{refined_level}
-use Rattle.subdiv_model.specs.Sparse.{Meeting, corners_of, inner, present, present_polygons, selected}
+use Rattle.subdiv_model.specs.Sparse.{FacePredicate, corners_of, inner, present, present_polygons, selected}
 use Rattle.subdiv_model.specs.NumberText.{number_text}
 use Rattle.subdiv_model.specs.Value.{whole_value}
 use Rattle.subdiv_model.specs.Refined.{Point}
@@ -24,11 +24,11 @@ pub data FaceKind : Type 0 where
   LeafFace : FaceKind
 
 -- the first kind that fits a face of a level; no predicate has faces of the last level
-abbrev pub kind_of_face : Level → Meeting → ℕ → ℕ → FaceKind
-kind_of_face base meeting depth face =
+abbrev pub kind_of_face : Level → FacePredicate → ℕ → ℕ → FaceKind
+kind_of_face base predicate depth face =
     if is_hole (refined_level base depth) face then HoleFace
-    else if not (is_among (inner base meeting depth) face) then OuterFace
-    else if is_among (selected base meeting depth) face then SelectedFace
+    else if not (is_among (inner base predicate depth) face) then OuterFace
+    else if is_among (selected base predicate depth) face then SelectedFace
     else LeafFace
 
 -- a present face as it is written: its kind, its number in the uniform level, and its corners among the written points, counted
@@ -44,22 +44,22 @@ pub record WrittenLevel : Type 0 where
   pub faces : List WrittenFace
 
 -- the points that are written for a level: the corners of its present faces, by first appearance
-abbrev pub written_points : Level → Meeting → ℕ → List ℕ
-written_points base meeting depth = each_once_by nat_eq (corners_of (present_polygons base meeting depth))
+abbrev pub written_points : Level → FacePredicate → ℕ → List ℕ
+written_points base predicate depth = each_once_by nat_eq (corners_of (present_polygons base predicate depth))
 
 -- a present face of a level as it is written
-abbrev pub written_face : Level → Meeting → ℕ → ℕ → WrittenFace
-written_face base meeting depth face = record {
-  kind = kind_of_face base meeting depth face;
+abbrev pub written_face : Level → FacePredicate → ℕ → ℕ → WrittenFace
+written_face base predicate depth face = record {
+  kind = kind_of_face base predicate depth face;
   number = face;
-  corners = map (λ v. position_or_len (nat_eq v) (written_points base meeting depth)) (polygon_at (refined_level base depth).polygons face);
+  corners = map (λ v. position_or_len (nat_eq v) (written_points base predicate depth)) (polygon_at (refined_level base depth).polygons face);
 }
 
 -- a sparse level as it is written
-abbrev pub written_level : Level → Meeting → ℕ → WrittenLevel
-written_level base meeting depth = record {
-  point_count = length (written_points base meeting depth);
-  faces = map (written_face base meeting depth) (present base meeting depth);
+abbrev pub written_level : Level → FacePredicate → ℕ → WrittenLevel
+written_level base predicate depth = record {
+  point_count = length (written_points base predicate depth);
+  faces = map (written_face base predicate depth) (present base predicate depth);
 }
 
 -- the letter of a kind of face
@@ -93,7 +93,7 @@ sparse_level_text decimals depth level points =
     sparse_level_line depth level ++ (flat_map (point_line decimals) points ++ flat_map sparse_face_line level.faces)
 
 -- the text of the levels from 0 to the depth, from the points of each uniform level
-abbrev pub sparse_text : Option ℕ → (ℕ → List Point) → Level → Meeting → ℕ → List ℕ
-sparse_text decimals points base meeting depth =
-    flat_map (λ j. sparse_level_text decimals j (written_level base meeting j) (points_with (points j) (written_points base meeting j)))
+abbrev pub sparse_text : Option ℕ → (ℕ → List Point) → Level → FacePredicate → ℕ → List ℕ
+sparse_text decimals points base predicate depth =
+    flat_map (λ j. sparse_level_text decimals j (written_level base predicate j) (points_with (points j) (written_points base predicate j)))
     (range_with_len 0 (depth + 1))

@@ -8,12 +8,12 @@ use Rattle.subdiv_model.specs.Level.{Level}
 use Rattle.subdiv_model.specs.NumberText.{number_text}
 use Rattle.subdiv_model.specs.Refined.{Point}
 use Rattle.subdiv_model.specs.Text.{corner_text, line_text, point_line, texture_line}
-use Rattle.subdiv_model.specs.Sparse.{Meeting, selected}
+use Rattle.subdiv_model.specs.Sparse.{FacePredicate, selected}
 use Rattle.subdiv_model.specs.SparseText.{WrittenFace, WrittenLevel, kind_text, points_with, written_level, written_points}
 
 -- the predicate of the faces that are selected at each level, for a number of levels
-abbrev pub selected_to : Level → Meeting → ℕ → Meeting
-selected_to base meeting depth = map (selected base meeting) (range_with_len 0 depth)
+abbrev pub selected_to : Level → FacePredicate → ℕ → FacePredicate
+selected_to base predicate depth = map (selected base predicate) (range_with_len 0 depth)
 
 -- the corners of the face of this number, if the level has it
 abbrev pub corners_of_face : WrittenLevel → ℕ → Option Polygon
@@ -59,21 +59,21 @@ texture_with values numbers = map (λ p. get_or values p (whole_value (pos 0), w
 -- sparse levels: the first level, the predicate of the selected faces, and the values of each uniform level
 pub record SparseTrack (V : Type 0) : Type 0 where
   pub base : Level
-  pub meeting : Meeting
+  pub predicate : FacePredicate
   pub values : ℕ → List V
 
 -- the written level of a track of points, with its points
 abbrev pub points_part : SparseTrack Point → ℕ → SparsePart Point
 points_part track k = record {
-  level = written_level track.base track.meeting k;
-  values = points_with (track.values k) (written_points track.base track.meeting k);
+  level = written_level track.base track.predicate k;
+  values = points_with (track.values k) (written_points track.base track.predicate k);
 }
 
 -- the written level of a track of texture values, with its texture points
 abbrev pub texture_part : SparseTrack (Value × Value) → ℕ → SparsePart (Value × Value)
 texture_part track k = record {
-  level = written_level track.base track.meeting k;
-  values = texture_with (track.values k) (written_points track.base track.meeting k);
+  level = written_level track.base track.predicate k;
+  values = texture_with (track.values k) (written_points track.base track.predicate k);
 }
 
 -- the text of the levels from 0 to the depth, each with its points and its texture points

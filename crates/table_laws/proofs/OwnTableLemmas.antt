@@ -21,7 +21,8 @@ use Rattle.far_model.specs.Answer.{positions_of, composition_refusal, own_table}
 use Rattle.mesh_laws.proofs.Laws.{all-simple}
 use Rattle.mask_laws.proofs.BoundaryLemmas.{IsSharpAtBoundary, boundary-base}
 use Rattle.mask_laws.proofs.MeanLemmas.{means-meshes}
-use Rattle.mask_laws.specs.Laws.{IsManifoldMesh, HasProperTags}
+use Rattle.level_laws.specs.Tags.{HasProperTags}
+use Rattle.mask_laws.specs.Laws.{IsManifoldMesh}
 use Rattle.stencil_laws.proofs.RowLemmas.{one-denominator}
 use Rattle.table_laws.specs.StoredTable.{IsStored}
 use Rattle.table_laws.proofs.FitLemmas.{no-begin, no-fault-where, is-composed, within-bounds}

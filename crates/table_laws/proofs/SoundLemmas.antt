@@ -13,7 +13,8 @@ use Rattle.obj_laws.proofs.ObjGoodLemmas.{or-else-none}
 use Rattle.obj_laws.proofs.ObjMeshLemmas.{vertices-good}
 use Rattle.mesh_laws.proofs.FaultLemmas.{fault-decides}
 use Rattle.mesh_laws.proofs.WalkLemmas.{manifold-decides}
-use Rattle.mask_laws.specs.Laws.{IsManifoldMesh, HasProperTags}
+use Rattle.level_laws.specs.Tags.{HasProperTags}
+use Rattle.mask_laws.specs.Laws.{IsManifoldMesh}
 
 pub lines-proper : (lines : List (List (List ℕ))) (least : ℕ) → HasProperTags (mesh_of_lines lines least)
 lines-proper lines least = record { creases = creases-proper lines; corner_tags = corners-proper lines }

@@ -15,8 +15,9 @@ use Rattle.mesh_laws.proofs.ChildFaceLemmas.{is_child, all-child}
 use Rattle.mesh_laws.proofs.Laws.{all-simple}
 use Rattle.level_laws.proofs.FaceLemmas.{child_polygons-length}
 use Rattle.level_laws.proofs.WellFormedLemmas.{first-of-six}
-use Rattle.mask_laws.specs.Laws.{IsManifoldMesh, HasProperTags, IsManifoldWithSharpBoundary, mesh_level}
-use Rattle.mask_laws.specs.SharpBoundary.{is_infinite}
+use Rattle.level_laws.specs.Tags.{HasProperTags}
+use Rattle.mask_laws.specs.Laws.{IsManifoldMesh, IsManifoldWithSharpBoundary, mesh_level}
+use Rattle.subdiv_model.specs.Feature.{is_infinite}
 use Rattle.mask_laws.proofs.BoundaryLemmas.{boundary-named, sharp-from}
 use Rattle.texture_laws.specs.CutMesh.{cut_faces, cut_point_count, vertex_of}
 use Rattle.texture_laws.proofs.ChannelLemmas.{cut-whole}

@@ -6,7 +6,7 @@ use Rattle.subdiv_model.specs.ReadObj.{is_texture_line, kept_coordinates, obj_li
 use Rattle.obj_laws.proofs.NumeralValueLemmas.{tens}
 use Rattle.text_laws.proofs.PointLemmas.{common-positive}
 use Rattle.sharpness_laws.proofs.TagLemmas.{creases-proper, corners-proper}
-use Rattle.mask_laws.specs.Laws.{HasProperTags}
+use Rattle.level_laws.specs.Tags.{HasProperTags}
 
 pub read-proper : (text : List ℕ) (least : ℕ) → HasProperTags (read_obj_mesh text least)
 read-proper text least = record { creases = creases-proper (obj_lines text); corner_tags = corners-proper (obj_lines text) }

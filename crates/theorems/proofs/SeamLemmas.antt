@@ -19,7 +19,7 @@ use Rattle.number_laws.proofs.CountLemmas.{any-weaker}
 use Rattle.mesh_laws.proofs.ClosedLemmas.{any-all}
 use Rattle.mesh_laws.proofs.PointLemmas.{boundary-alike}
 use Rattle.mesh_laws.proofs.Laws.{all-simple}
-use Rattle.mask_laws.specs.SharpBoundary.{is_infinite}
+use Rattle.subdiv_model.specs.Feature.{is_infinite}
 use Rattle.mask_laws.proofs.BoundaryLemmas.{IsSharpAtBoundary, boundary-named, sharp-from}
 use Rattle.texture_laws.specs.CutMesh.{cut_faces, cut_point_count}
 use Rattle.texture_laws.proofs.ChannelLemmas.{cut-over}

@@ -19,7 +19,8 @@ use Rattle.number_laws.proofs.CountLemmas.{all-weaker}
 use Rattle.mesh_laws.proofs.FaultLemmas.{fault-decides}
 use Rattle.mesh_laws.proofs.WalkLemmas.{manifold-decides}
 use Rattle.mesh_laws.proofs.Laws.{all-simple}
-use Rattle.mask_laws.specs.Laws.{IsManifoldMesh, HasProperTags, IsManifoldWithSharpBoundary, mesh_level}
+use Rattle.level_laws.specs.Tags.{HasProperTags}
+use Rattle.mask_laws.specs.Laws.{IsManifoldMesh, IsManifoldWithSharpBoundary, mesh_level}
 use Rattle.obj_laws.proofs.ObjMeshLemmas.{faces-over}
 use Rattle.continued_laws.specs.Laws.{IsContinuation}
 use Rattle.continued_laws.proofs.StepLemmas.{sharp-mesh}

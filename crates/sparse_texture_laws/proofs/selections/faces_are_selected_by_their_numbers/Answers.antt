@@ -3,6 +3,6 @@ use Rattle.sparse_texture_laws.proofs.selections.faces_are_selected_by_their_num
 
 pub returns : goal.returns
 returns c = record {
-  selected = λ base cut meeting depth k same h. cut-selected base cut same meeting depth k h;
-  inner = λ base cut meeting depth k same h. cut-inner base cut same meeting depth k h;
+  selected = λ base cut predicate depth k same h. cut-selected base cut same predicate depth k h;
+  inner = λ base cut predicate depth k same h. cut-inner base cut same predicate depth k h;
 }

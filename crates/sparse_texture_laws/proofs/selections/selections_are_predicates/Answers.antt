@@ -1,5 +1,5 @@
-use Rattle.sparse_texture_laws.proofs.MeetingLemmas.{selection-meeting}
+use Rattle.sparse_texture_laws.proofs.PredicateLemmas.{selection-predicate}
 use Rattle.sparse_texture_laws.proofs.selections.selections_are_predicates.Goals as goal
 
 pub returns : goal.returns
-returns c = selection-meeting
+returns c = selection-predicate
