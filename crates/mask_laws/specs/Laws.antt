@@ -1,10 +1,11 @@
 -- Meshes, levels, points, terms and control numbers, for the laws of masks and refined values.
 -- Source: Drillolive.
 use Rattle.std.specs.Prelude.{◌≡◌, ℕ, ◌<◌, false, ℤ, List, length, map, IsTrue}
+use Rattle.std.specs.List.{list_all}
 use Rattle.subdiv_model.specs.Manifold.{IsManifold}
 use Rattle.subdiv_model.specs.ObjMesh.{ObjMesh, has_faces_over_points}
 use Rattle.subdiv_model.specs.Base.{base_level, is_at_boundary}
-use Rattle.subdiv_model.specs.Sharpness.{Sharpness, Method, uniform_child}
+use Rattle.subdiv_model.specs.Sharpness.{Sharpness, Method, uniform_child, is_proper_sharpness}
 use Rattle.subdiv_model.specs.Level.{Level, is_well_formed}
 use Rattle.subdiv_model.specs.Child.{refined_level}
 use Rattle.subdiv_model.specs.Rule.{is_smooth_or_dart, vertex_rule, same_mask, child_ring, transition_weight}
