@@ -5,3 +5,4 @@ mod WeightLemmas
 mod PutLemmas
 mod CauseLemmas
 mod QuadLemmas
+mod SmoothLemmas

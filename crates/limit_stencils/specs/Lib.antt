@@ -1,2 +1,3 @@
 pub mod AtVertex
 pub mod Limits
+pub mod Smooth

@@ -1,6 +1,6 @@
 -- The table of the limit points of a level, and its faults.
 -- Source: this profile.
-use Rattle.std.specs.Prelude.{ℕ, ◌≡◌, ◌≢◌, ◌<◌, ◌≤◌, true, IsTrue, Some, List, [], length, Result, MatchResult}
+use Rattle.std.specs.Prelude.{ℕ, ◌≡◌, ◌≢◌, ◌<◌, ◌≤◌, Bool, true, IsTrue, Some, List, [], length, Result, MatchResult}
 use Rattle.std.specs.List.{All}
 use Rattle.subdiv_model.specs.Lists.{first_of}
 use Rattle.subdiv_model.specs.Polygons.{Polygon, polygon_at}
@@ -9,9 +9,11 @@ use Rattle.subdiv_model.specs.Fault as model
 use Rattle.subdiv_model.specs.Limit.{has_quads, limit_causes, limit_masks}
 use Rattle.subdiv_model.specs.Channel.{number_bound, entry_bound}
 use Rattle.mask_laws.specs.SharpBoundary.{has_sharp_boundary}
+use Rattle.level_topology.specs.Topology.{Topology}
 use Rattle.child_masks.specs.Masks.{IsFirstDenominator}
 use Rattle.stencil_apply.specs.Table.{Table}
 use Rattle.stencil_factory.specs.MaskRows.{AreMaskRows, mask_dens, mask_entries}
+use Rattle.limit_stencils.specs.Smooth.{IsSmooth}
 use Rattle.limit_stencils.specs.declared.fault.LimitFault.{LimitFault}
 use Rattle.limit_stencils.specs.declared.fault.LimitFault.TheVariants as limit
 use Rattle.limit_stencils.specs.declared.fault.QuadFault.{QuadFault}
@@ -22,6 +24,11 @@ pub record HasLimits (level : Level) : Type 0 where
   pub quads : has_quads level ≡ true
   pub fine : limit_causes level ≡ []
   pub boundary : IsTrue (has_sharp_boundary level)
+
+-- the level has limit masks, and each of its points is smooth if that is known
+pub record HasLimitMasks (t : Topology) (smooth : Bool) : Type 0 where
+  pub limits : HasLimits t.level
+  pub smooth_points : smooth ≡ true → IsSmooth t
 
 -- each polygon has four corners, each point has a limit mask, and each limit point has its row
 pub record IsLimitTable (level : Level) (table limits : Table) : Type 0 where

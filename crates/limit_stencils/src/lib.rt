@@ -11,6 +11,7 @@ mod lasting;
 mod masks;
 mod quads;
 mod semi;
+mod smooth;
 mod table;
 mod weigh;
 

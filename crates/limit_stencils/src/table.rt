@@ -8,9 +8,8 @@ ghost use Rattle.stencil_apply.specs.Table.{Table};
 ghost use Rattle.stencil_factory.specs.MaskRows.{IsRowFault};
 ghost use Rattle.limit_stencils.specs.Limits.{HasLimits, IsLimitComposition, IsLimitFault, IsQuadComposition, IsQuadFault};
 
-use crate::cause::check_points;
 use crate::fault::{LimitFault, QuadFault};
-use crate::masks::LimitMasks;
+use crate::masks::{LimitMasks, limit_masks};
 use crate::quads::first_other;
 use level_topology::Level;
 use std::alloc::Global;
@@ -42,12 +41,16 @@ fn limit_fault(fault: QuadFault) -> LimitFault
 }
 
 // Returns the limit table of a level in which each point has a limit mask.
-fn limit_rows(alloc: Global, level: &Level, table: &StencilTable) -> Result<StencilTable, QuadFault>
-    requires limits { HasLimits level.now.level }
-    requires each { length table.now.rows ≡ level.now.level.point_count }
-    ensures { IsQuadComposition level.now.level table.now result }
+fn limit_rows(
+    alloc: Global,
+    table: &StencilTable,
+    masks: &LimitMasks,
+) -> Result<StencilTable, QuadFault>
+    requires limits { HasLimits masks.now.level }
+    requires each { length table.now.rows ≡ masks.now.level.point_count }
+    ensures { IsQuadComposition masks.now.level table.now result }
 {
-    match compose_masks(alloc, table, &LimitMasks { level }) {
+    match compose_masks(alloc, table, masks) {
         Ok(limits) => Ok(limits),
         Err(fault) => Err(quad_fault(fault)),
     }
@@ -76,8 +79,8 @@ pub fn limit_table_of_quads(
     requires each { length table.now.rows ≡ level.now.level.point_count }
     ensures { IsQuadComposition level.now.level table.now result }
 {
-    check_points(level)?;
-    limit_rows(alloc, level, table)
+    let masks = limit_masks(level)?;
+    limit_rows(alloc, table, &masks)
 }
 
 /// Returns the table of the limit points of a level, over the control points of `table`. [`limit_table_of_quads`] describes the rows and

@@ -45,8 +45,8 @@ fn start(v: u32, weight: u128, denominator: u128, weights: &mut PointWeights) ->
     weights.put(v, weight)
 }
 
-// Puts the weights of a smooth vertex.
-fn put_smooth(level: &Level, v: u32, weights: &mut PointWeights) -> Result<(), Memory>
+/// Puts the weights of a smooth vertex.
+pub(crate) fn put_smooth(level: &Level, v: u32, weights: &mut PointWeights) -> Result<(), Memory>
     requires known { v < level.now.level.point_count }
     requires quads { has_quads level.now.level ≡ true }
     ensures { OnOk result (weights.new ≡ smooth_weights v (ends_in level.now v) (opposites_in level.now v)) }
