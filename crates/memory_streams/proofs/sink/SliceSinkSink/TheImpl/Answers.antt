@@ -1,5 +1,6 @@
 use Rattle.std.proofs.Common.{rules, arith}
 use Rattle.memory_streams.proofs.OkLemmas.{none-failed}
+use Rattle.memory_streams.proofs.SliceLemmas.{number-kept}
 use Rattle.memory_streams.proofs.sink.SliceSinkSink.TheImpl.Goals as goal
 
 pub write-tells : goal.write-tells
@@ -10,7 +11,7 @@ write-tells g c = record {
   failed = none-failed _ c.result c.ensures.fine;
   cause = none-failed _ c.result c.ensures.fine;
   later = omega arith;
-  fixed = c.ensures.fixed;
+  fixed = number-kept c.ensures.same_reference c.ensures.same_before;
 }
 
 pub flush-tells : goal.flush-tells
@@ -18,5 +19,5 @@ flush-tells g c = record {
   same = search rules;
   cause = none-failed _ c.result c.ensures.fine;
   later = omega arith;
-  fixed = c.ensures.fixed;
+  fixed = number-kept c.ensures.same_reference c.ensures.same_before;
 }
