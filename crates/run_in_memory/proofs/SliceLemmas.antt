@@ -1,21 +1,21 @@
 -- A run of the program over slices.
-use Rattle.std.proofs.Common.{◌≡◌, ℕ, inl, inr, List, [], ◌∷◌, ◌++◌, length, take, Option, Some, None, Result, Ok, Err, OnOk, OnErr, refl, ap, sym, ◌∙◌, subst}
-use Rattle.subdiv_model.specs.Fault.{Fault, Read, Write, Memory, fault_line, fault_status}
-use Rattle.far_io.specs.Bytes.{Rose, Added}
+use Rattle.std.proofs.Common.{◌≡◌, ℕ, inl, inr, List, [], ◌∷◌, ◌++◌, Option, Some, None, refl, ap, ◌∙◌, subst}
+use Rattle.subdiv_model.specs.Fault.{Fault, Read, Write, Memory, fault_status}
 use Rattle.far_model.specs.Answer.{answer}
 use Rattle.far_engine.specs.Laws.{IsAnsweredBy}
 use Rattle.far_engine.specs.Runs.{Runs, Reports}
 use Rattle.far_engine.proofs.LawLemmas.{answered-by, cut-at, rose-at, not-to-zero}
-use Rattle.memory_streams.specs.Text.{text_of, IsStored, count_of}
+use Rattle.memory_streams.proofs.KeptLemmas.{keeps-slice}
+use Rattle.memory_streams.specs.Text.{KeepsSlice, text_of, before_of, IsStored, count_of}
 use Rattle.memory_streams.specs.declared.sink.SliceSink.{SliceSink}
 use Rattle.memory_streams.specs.contracts.sink.SliceSinkSink.TheImpl as sink
 use Rattle.memory_streams.specs.contracts.source.SliceSourceSource.TheImpl as source
 use Rattle.run_in_memory.specs.declared.program.Ran.{Ran}
-use Rattle.run_in_memory.specs.Runs.{RunsOverSlices, RunsInMemory, IsAnswer, line_of}
+use Rattle.run_in_memory.specs.Runs.{RunsOverSlices, RunsInMemory, IsAnswer, line_of, memory_line}
 use Rattle.run_in_memory.proofs.AnswerLemmas.{adds-text, sink-kept}
 
 -- a text appended to nothing
-from-nothing : (old new text : List ℕ) → new ≡ old ++ text → old ≡ [] → new ≡ text
+pub from-nothing : (old new text : List ℕ) → new ≡ old ++ text → old ≡ [] → new ≡ text
 from-nothing old new text added none = added ∙ ap (λ t. t ++ text) none
 
 -- the line of the outcome was reported, since no write failed
@@ -24,9 +24,17 @@ reported-line e e' None same none = ap text_of same ∙ none
 reported-line e e' (Some fault) (inl added) none = from-nothing _ _ _ added none
 reported-line e e' (Some fault) (inr cut) none = absurd (not-to-zero 0 cut.0)
 
-nothing-taken : (out : List ℕ) → take {A = ℕ} (length out) [] ≡ []
-nothing-taken [] = refl
-nothing-taken (b ∷ out) = refl
+-- a slice that stays has nothing stored in it
+nothing-stored : (out : List ℕ) → IsStored [] out out
+nothing-stored [] = refl
+nothing-stored (b ∷ out) = refl
+
+-- what is stored, under other names of the text and of the first bytes
+same-stored : {text text' old old' new : List ℕ} → text ≡ text' → old ≡ old' → IsStored text old new → IsStored text' old' new
+same-stored {text} {text'} {old} {old'} {new} same before stored =
+    let P : List ℕ → Type 0 = λ t. IsStored t old' new in
+    let Q : List ℕ → Type 0 = λ bytes. IsStored text bytes new in
+    subst P same (subst Q before stored)
 
 module _ (words : List (List ℕ)) (input left : List ℕ) (k k' : SliceSink) (empty : text_of k ≡ []) where
   is-answer : (outcome : Option Fault) → Runs source.ghosts sink.ghosts words input left k k' outcome → IsAnswer words input outcome (text_of k')
@@ -43,49 +51,43 @@ module _ (words : List (List ℕ)) (input left : List ℕ) (k k' : SliceSink) (e
           inl (is.0, from-nothing _ _ _ (adds-text source.ghosts sink.ghosts input left k k' words input outcome run refl no_write is.0 is.1) empty)
       by (inr memory) = inr (memory.0, ap text_of memory.1 ∙ empty)
 
-  pub in-memory : (s : List ℕ) (e e' : SliceSink) (out errors : List ℕ) (ran : Ran) → RunsOverSlices words s left k k' e e' ran.status → s ≡ input → text_of e ≡ [] →
-      IsStored (text_of k') out → ran.written ≡ count_of (text_of k') → IsStored (text_of e') errors → ran.reported ≡ count_of (text_of e') →
-      RunsInMemory words input out errors ran
-  in-memory s e e' out errors ran run same none stored written line_stored reported =
+  pub in-memory : (s : List ℕ) (e e' : SliceSink) (out out' errors errors' : List ℕ) (ran : Ran) → RunsOverSlices words s left k k' e e' ran.status → s ≡ input →
+      text_of e ≡ [] → before_of k' ≡ out → IsStored (text_of k') (before_of k') out' → ran.written ≡ count_of (text_of k') →
+      before_of e' ≡ errors → IsStored (text_of e') (before_of e') errors' → ran.reported ≡ count_of (text_of e') →
+      RunsInMemory words input out out' errors errors' ran
+  in-memory s e e' out out' errors errors' ran run same none before stored written line_before line_stored reported =
       let Q : List ℕ → Type 0 = λ bytes. RunsOverSlices words bytes left k k' e e' ran.status in
       let over : Q input = subst Q same run in
       let program = over.1 in
       let line = reported-line e e' program.outcome program.reports.reports none in
-      let P : List ℕ → Type 0 = λ text. IsStored text errors in
       record {
         outcome = program.outcome;
         text = text_of k';
         answered = is-answer program.outcome program.runs;
         status = program.reports.status;
-        stored = stored;
+        stored = same-stored refl before stored;
         written = written;
-        line_stored = subst P line line_stored;
+        line_stored = same-stored line line_before line_stored;
         reported = reported ∙ ap count_of line;
       }
 
 -- the report of `Memory`, with nothing written
-pub without-memory : (words : List (List ℕ)) (input out errors : List ℕ) (e' : SliceSink) (ran : Ran) → text_of e' ≡ fault_line Memory → ran.status ≡ fault_status Memory →
-    ran.written ≡ 0 → IsStored (text_of e') errors → ran.reported ≡ count_of (text_of e') → RunsInMemory words input out errors ran
-without-memory words input out errors e' ran line status none line_stored reported =
-    let P : List ℕ → Type 0 = λ text. IsStored text errors in
+pub without-memory : (words : List (List ℕ)) (input out errors errors' : List ℕ) (e' : SliceSink) (ran : Ran) → text_of e' ≡ memory_line →
+    ran.status ≡ fault_status Memory → ran.written ≡ 0 → before_of e' ≡ errors → IsStored (text_of e') (before_of e') errors' → ran.reported ≡ count_of (text_of e') →
+    RunsInMemory words input out out errors errors' ran
+without-memory words input out errors errors' e' ran line status none before line_stored reported =
     record {
       outcome = Some Memory;
       text = [];
       answered = inr (refl, refl);
       status = status;
-      stored = sym (nothing-taken out);
+      stored = nothing-stored out;
       written = none;
-      line_stored = subst P line line_stored;
+      line_stored = same-stored line before line_stored;
       reported = reported ∙ ap count_of line;
     }
 
--- the report of `Memory` does not fail
-pub reported-memory : {E : Type 0} (e e' : SliceSink) (result : Result (Unit {0}) E) → OnOk result (Added (sink.ghosts.held e) (sink.ghosts.held e') (fault_line Memory)) →
-    OnErr result (Rose (sink.ghosts.faults e) (sink.ghosts.faults e')) → text_of e ≡ [] → text_of e' ≡ fault_line Memory
-reported-memory e e' (Ok x) added cause none = from-nothing _ _ _ added none
-reported-memory e e' (Err x) added cause none = absurd (not-to-zero 0 cause)
-
 -- the two sinks keep their slices
-pub same-out : {words : List (List ℕ)} {s s' : List ℕ} {k k' e e' : SliceSink} {status : ℕ} → RunsOverSlices words s s' k k' e e' status →
-    (k'.out.ghost_name ≡ k.out.ghost_name) × (e'.out.ghost_name ≡ e.out.ghost_name)
-same-out {words} {s} {s'} {k} {k'} run = (sink-kept source.ghosts sink.ghosts s s' k k' words run.1.outcome run.1.runs, run.1.reports.fixed)
+pub same-out : {words : List (List ℕ)} {s s' : List ℕ} {k k' e e' : SliceSink} {status : ℕ} → RunsOverSlices words s s' k k' e e' status → KeepsSlice k k' × KeepsSlice e e'
+same-out {words} {s} {s'} {k} {k'} {e} {e'} run =
+    (keeps-slice k k' (sink-kept source.ghosts sink.ghosts s s' k k' words run.1.outcome run.1.runs), keeps-slice e e' run.1.reports.fixed)

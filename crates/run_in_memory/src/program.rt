@@ -1,7 +1,8 @@
 //! A run of the program over slices.
 
-ghost use Rattle.std.specs.Prelude.{◌≡◌, ◌<◌, ℕ, List, map, string_bytes};
-ghost use Rattle.run_in_memory.specs.Runs.{RunsInMemory, RunsOverSlices};
+ghost use Rattle.std.specs.Prelude.{◌≡◌, ◌<◌, ◌++◌, ℕ, List, map, string_bytes};
+ghost use Rattle.memory_streams.specs.Text.{KeepsSlice, text_of};
+ghost use Rattle.run_in_memory.specs.Runs.{RunsInMemory, RunsOverSlices, memory_line};
 ghost use Rattle.run_in_memory.specs.Words.{words_of};
 
 use crate::words::words_in;
@@ -57,8 +58,8 @@ fn run_streams(
     errors: &mut SliceSink,
 ) -> u8
     ensures runs { RunsOverSlices (map string_bytes words.now.items) source.old source.new sink.old sink.new errors.old errors.new result }
-    ensures same_out { sink.new.out.ghost_name ≡ sink.old.out.ghost_name }
-    ensures same_errors { errors.new.out.ghost_name ≡ errors.old.out.ghost_name }
+    ensures kept_out { KeepsSlice sink.old sink.new }
+    ensures kept_errors { KeepsSlice errors.old errors.new }
 {
     run_counted::<Brand>(alloc, Blank::new(1), words, source, sink, errors)
 }
@@ -71,7 +72,7 @@ fn run_words(
     out: &mut [u8],
     errors: &mut [u8],
 ) -> Ran
-    ensures { RunsInMemory (map string_bytes words.now.items) input.now out.new errors.new result }
+    ensures { RunsInMemory (map string_bytes words.now.items) input.now out.old out.new errors.old errors.new result }
 {
     let mut sink = SliceSink::new(out);
     let mut reports = SliceSink::new(errors);
@@ -91,13 +92,21 @@ fn run_words(
     }
 }
 
+// The line of `Memory`, put into a sink that keeps its slice.
+fn put_memory_line(errors: &mut SliceSink)
+    ensures added { text_of errors.new ≡ text_of errors.old ++ memory_line }
+    ensures kept { KeepsSlice errors.old errors.new }
+{
+    let _ = report(&FarFault::Memory, errors);
+}
+
 // The report of `Memory` before any word was read.
 fn without_memory(out: &mut [u8], errors: &mut [u8]) -> Ran
-    ensures { (words : List (List ℕ)) (input : List ℕ) → RunsInMemory words input out.new errors.new result }
+    ensures { (words : List (List ℕ)) (input : List ℕ) → RunsInMemory words input out.old out.new errors.old errors.new result }
 {
     let _ = out;
     let mut reports = SliceSink::new(errors);
-    let _ = report(&FarFault::Memory, &mut reports);
+    put_memory_line(&mut reports);
     Ran {
         status: status(&FarFault::Memory),
         written: 0,
@@ -110,7 +119,7 @@ fn without_memory(out: &mut [u8], errors: &mut [u8]) -> Ran
 ///
 /// `words` has the words after the program's name, each ended by a zero byte. If a word is not UTF-8 or the last one does not end, the
 /// status is that of `Usage` with word 0. `out` gets as much of the answer as fits and `errors` as much of the fault's line; the result
-/// has the lengths of the whole texts. No clause says what a longer slice holds behind its text.
+/// has the lengths of the whole texts. A longer slice keeps its bytes behind its text.
 ///
 /// `Memory` may come at any time; the call then writes nothing into `out`. `Read` and `Write` never come.
 pub fn run_in_memory(
@@ -120,7 +129,7 @@ pub fn run_in_memory(
     out: &mut [u8],
     errors: &mut [u8],
 ) -> Ran
-    ensures { RunsInMemory (words_of words.now) input.now out.new errors.new result }
+    ensures { RunsInMemory (words_of words.now) input.now out.old out.new errors.old errors.new result }
 {
     match words_in(alloc, words) {
         Ok(words) => run_words(alloc, &words, input, out, errors),

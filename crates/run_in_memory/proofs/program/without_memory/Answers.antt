@@ -1,11 +1,12 @@
-use Rattle.std.proofs.Common.{rules, refl}
-use Rattle.run_in_memory.proofs.SliceLemmas.{without-memory, reported-memory}
+use Rattle.std.proofs.Common.{rules, refl, ◌∙◌}
+use Rattle.run_in_memory.proofs.SliceLemmas.{from-nothing, without-memory}
 use Rattle.run_in_memory.proofs.program.without_memory.Goals as goal
 
 pub returns : goal.returns
 returns c = λ words input.
+    let line = from-nothing _ _ _ c.put_memory_line.ensures.added c.new-reports.ensures.empty in
+    let before = c.put_memory_line.ensures.kept.same_before ∙ c.new-reports.ensures.before in
     let found =
-    without-memory words input c.args.out.now _ c.report.new.sink (record { status = c.status.result; written = 0; reported = c.finish.result })
-    (reported-memory c.new-reports.result c.report.new.sink c.report.result c.report.ensures.ok c.report.ensures.cause c.new-reports.ensures.empty) c.status.ensures refl
-    c.finish.ensures.stored c.finish.ensures.total in
+    without-memory words input c.args.out.now c.args.errors.now _ c.put_memory_line.new.errors (record { status = c.status.result; written = 0; reported = c.finish.result })
+    line c.status.ensures refl before c.finish.ensures.stored c.finish.ensures.total in
     search (rules, found)
