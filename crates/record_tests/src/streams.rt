@@ -1,18 +1,26 @@
 //! Streams over slices: the bytes that are left, the contents of the slice, and the length of the whole text.
 
-ghost use Rattle.std.specs.Prelude.{◌≡◌};
-ghost use Rattle.memory_streams.specs.Text.{IsStored, count_of};
+ghost use Rattle.std.specs.Prelude.{◌≡◌, ◌++◌};
+ghost use Rattle.memory_streams.specs.Text.{KeepsSlice, text_of, IsStored, count_of};
 
 use far_io::{Sink, Source, write_all_of};
 use memory_streams::{SliceSink, SliceSource};
 
+// Adds a text to a sink, which keeps its slice.
+fn add_text(sink: &mut SliceSink, text: &[u8])
+    ensures added { text_of sink.new ≡ text_of sink.old ++ text.now }
+    ensures kept { KeepsSlice sink.old sink.new }
+{
+    let _ = write_all_of(sink, text);
+}
+
 // Writes a text into a slice, and returns its length.
 fn text_into(text: &[u8], out: &mut [u8]) -> u64
     ensures total { result ≡ count_of text.now }
-    ensures stored { IsStored text.now out.new }
+    ensures stored { IsStored text.now out.old out.new }
 {
     let mut sink = SliceSink::new(out);
-    let _ = write_all_of(&mut sink, text);
+    add_text(&mut sink, text);
     sink.finish()
 }
 
