@@ -1,7 +1,7 @@
 -- The result of writing the text of the rows of a table: it fits, or it is longer.
-use Rattle.std.proofs.Common.{◌≡◌, ℕ, ◌-◌, ◌^◌, ◌<◌, ◌≤◌, Bool, true, false, nat_le, List, length, inl, inr, arith, sym, ◌∙◌, leb-true, if◌then◌else◌}
+use Rattle.std.proofs.Common.{◌≡◌, ℕ, ◌-◌, ◌^◌, ◌<◌, ◌≤◌, Bool, true, false, nat_le, List, ◌++◌, length, take, drop, inl, inr, arith, append-nil, ap, sym, ◌∙◌, leb-true, if◌then◌else◌}
 use Rattle.std.proofs.lemmas.Bool.{leb-false}
-use Rattle.std.proofs.lemmas.List.{take_all}
+use Rattle.std.proofs.lemmas.List.{take_all, drop_all}
 use Rattle.subdiv_model.specs.Table.{Table}
 use Rattle.subdiv_model.specs.TableText.{text_of_table}
 use Rattle.memory_streams.specs.Text.{IsStored, count_of}
@@ -11,22 +11,29 @@ use Rattle.stored_arrays.specs.declared.rows.ExactRows.{ExactRows}
 use Rattle.far_c.specs.Stored.{AnswersWrite, IsCut, IsWritten}
 
 -- a text fits, or it is longer
-fitting : (text new : List ℕ) (written : ℕ) → length new < 2 ^ 64 - 1 → written ≡ count_of text → IsStored text new → written ≤ length new → IsWritten text new written
-fitting text new written short counted stored fits =
+fitting : (text old new : List ℕ) (written : ℕ) → length old < 2 ^ 64 - 1 → written ≡ count_of text → IsStored text old new → written ≤ length old
+    → IsWritten text old new written
+fitting text old new written short counted stored fits =
     let whole : written ≡ length text = omega arith in
-    record { fits = omega arith; front = stored ∙ take_all (length new) text (omega arith); counted = whole }
+    record {
+      fits = omega arith;
+      bytes = stored ∙ ap (λ front. front ++ drop (length text) old) (take_all (length old) text (omega arith));
+      counted = whole;
+    }
 
-cut : (text new : List ℕ) (written : ℕ) → written ≡ count_of text → IsStored text new → length new < written → IsCut text new written
-cut text new written counted stored more = record {
-  longer = omega arith;
-  front = sym (take_all (length text) new (omega arith)) ∙ stored;
-  counted = counted;
-}
+cut : (text old new : List ℕ) (written : ℕ) → written ≡ count_of text → IsStored text old new → length old < written → IsCut text old new written
+cut text old new written counted stored more =
+    let none = drop_all (length text) old (omega arith) in
+    record {
+      longer = omega arith;
+      bytes = stored ∙ ap (λ rest. take (length old) text ++ rest) none ∙ append-nil (take (length old) text);
+      counted = counted;
+    }
 
-pub write-answered : (rows : ExactRows) (fault : FaultRecord) (old new : List ℕ) (made : Table) (written : ℕ) (fits : Bool) (status : ℕ) → length new < 2 ^ 64 - 1
-    → IsTableOf rows made → written ≡ count_of (text_of_table made) → IsStored (text_of_table made) new → fits ≡ nat_le written (length new) → status ≡ (if fits then 0 else 1)
+pub write-answered : (rows : ExactRows) (fault : FaultRecord) (old new : List ℕ) (made : Table) (written : ℕ) (fits : Bool) (status : ℕ) → length old < 2 ^ 64 - 1
+    → IsTableOf rows made → written ≡ count_of (text_of_table made) → IsStored (text_of_table made) old new → fits ≡ nat_le written (length old) → status ≡ (if fits then 0 else 1)
     → AnswersWrite rows status written old new fault
 write-answered rows fault old new made written true status short is counted stored within done =
-    inl (done, record { made = made; is = is; holds = fitting (text_of_table made) new written short counted stored (leb-true written (length new) (sym within)) })
+    inl (done, record { made = made; is = is; holds = fitting (text_of_table made) old new written short counted stored (leb-true written (length old) (sym within)) })
 write-answered rows fault old new made written false status short is counted stored within done =
-    inr (inl (done, record { made = made; is = is; holds = cut (text_of_table made) new written counted stored (leb-false written (length new) (sym within)) }))
+    inr (inl (done, record { made = made; is = is; holds = cut (text_of_table made) old new written counted stored (leb-false written (length old) (sym within)) }))

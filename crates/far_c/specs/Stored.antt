@@ -1,5 +1,5 @@
 -- The results of calls about stored tables: rows in arrays, a text, and the comparison of a text with a mesh.
-use Rattle.std.specs.Prelude.{ℕ, ◌≡◌, ◌<◌, ◌≤◌, false, List, length, take}
+use Rattle.std.specs.Prelude.{ℕ, ◌≡◌, ◌<◌, ◌≤◌, false, List, ◌++◌, length, take, drop}
 use Rattle.subdiv_model.specs.Table.{Table}
 use Rattle.subdiv_model.specs.TableText.{text_of_table}
 use Rattle.memory_streams.specs.Text.{count_of}
@@ -37,22 +37,22 @@ pub record HasText (rows : ExactRows) (Holds : List ℕ → Type 0) : Type 0 whe
   pub is : IsTableOf rows made
   pub holds : Holds (text_of_table made)
 
--- the bytes begin with the text, which has this length
-pub record IsWritten (text new : List ℕ) (written : ℕ) : Type 0 where
-  pub fits : length text ≤ length new
-  pub front : take (length text) new ≡ text
+-- the new bytes are the text, which has this length, and the old ones stay behind it
+pub record IsWritten (text old new : List ℕ) (written : ℕ) : Type 0 where
+  pub fits : length text ≤ length old
+  pub bytes : new ≡ text ++ drop (length text) old
   pub counted : written ≡ length text
 
--- the bytes are the beginning of the text, which is longer
-pub record IsCut (text new : List ℕ) (written : ℕ) : Type 0 where
-  pub longer : length new < length text
-  pub front : new ≡ take (length new) text
+-- the new bytes are the beginning of the text, which is longer
+pub record IsCut (text old new : List ℕ) (written : ℕ) : Type 0 where
+  pub longer : length old < length text
+  pub bytes : new ≡ take (length old) text
   pub counted : written ≡ count_of text
 
 -- the text is written, or as much of it as fits
 abbrev pub AnswersWrite : ExactRows → ℕ → ℕ → List ℕ → List ℕ → FaultRecord → Type 0
 AnswersWrite rows status written old new fault =
-    IsStatus status (HasText rows (λ text. IsWritten text new written)) (HasText rows (λ text. IsCut text new written)) (λ found. AreRowsRefused rows found × (new ≡ old)) fault
+    IsStatus status (HasText rows (λ text. IsWritten text old new written)) (HasText rows (λ text. IsCut text old new written)) (λ found. AreRowsRefused rows found × (new ≡ old)) fault
 
 -- the text is that of the mesh's table at the depth, or the fault for which it is not
 abbrev pub AnswersCheck : MeshArrays → ℕ → List ℕ → ℕ → FaultRecord → Type 0

@@ -7,7 +7,7 @@ use run_in_memory::{Ran, run_in_memory};
 use std::alloc::Global;
 
 /// Runs the program over slices. `words` has the words of its command line, each ended by a zero byte; `input` is its standard input.
-/// `out` gets as much of the answer as fits, `errors` as much of the fault's line.
+/// `out` gets as much of the answer as fits, `errors` as much of the fault's line. Both keep their bytes behind the text.
 #[unsafe(no_mangle)]
 pub extern "C" fn far_run(
     alloc: Global,
@@ -16,7 +16,7 @@ pub extern "C" fn far_run(
     out: &mut [u8],
     errors: &mut [u8],
 ) -> Ran
-    ensures { RunsInMemory (words_of words.now) input.now out.new errors.new result }
+    ensures { RunsInMemory (words_of words.now) input.now out.old out.new errors.old errors.new result }
 {
     run_in_memory(alloc, words, input, out, errors)
 }

@@ -49,7 +49,7 @@ pub extern "C" fn far_table_read(
 }
 
 /// Writes the text of the table of the rows, and the length of the whole text in bytes. If it does not fit, `out` gets its beginning and
-/// the status is 1.
+/// the status is 1. Bytes behind the text stay.
 #[unsafe(no_mangle)]
 pub extern "C" fn far_table_write(
     alloc: Global,
