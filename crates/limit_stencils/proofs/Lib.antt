@@ -6,3 +6,4 @@ mod PutLemmas
 mod CauseLemmas
 mod QuadLemmas
 mod SmoothLemmas
+mod BoundLemmas

@@ -227,7 +227,8 @@ module _ (t : Topology) (v : ℕ) (is : IsTopology t) (inside : v < t.level.poin
         positive = whole.1;
       })
 
-mask-there : (level : Level) (v : ℕ) → v < level.point_count → limit_mask level v ≡ mask_at (limit_masks level) v
+-- the limit mask at its place in the list
+pub mask-there : (level : Level) (v : ℕ) → v < level.point_count → limit_mask level v ≡ mask_at (limit_masks level) v
 mask-there level v inside =
     let e : 0 + v ≡ v = omega arith in sym (get_or-map-range_with_len (limit_mask level) 0 level.point_count v v no_mask inside e)
 

@@ -12,6 +12,7 @@ use Rattle.mask_laws.specs.SharpBoundary.{has_sharp_boundary}
 use Rattle.level_topology.specs.Topology.{Topology}
 use Rattle.child_masks.specs.Masks.{IsFirstDenominator}
 use Rattle.stencil_apply.specs.Table.{Table}
+use Rattle.stencil_apply.specs.Means.{word_bound}
 use Rattle.stencil_factory.specs.MaskRows.{AreMaskRows, mask_dens, mask_entries}
 use Rattle.limit_stencils.specs.Smooth.{IsSmooth}
 use Rattle.limit_stencils.specs.declared.fault.LimitFault.{LimitFault}
@@ -35,6 +36,11 @@ pub record IsLimitTable (level : Level) (table limits : Table) : Type 0 where
   pub quads : has_quads level ≡ true
   pub fine : limit_causes level ≡ []
   pub rows : AreMaskRows level (limit_masks level) table limits
+
+-- a number of at most 2^63 - 1 that the common denominator of no limit point passes
+pub record IsDenominatorBound (level : Level) (table : Table) (bound : ℕ) : Type 0 where
+  pub short : bound ≤ word_bound
+  pub dens : All (λ den. den ≤ bound) (mask_dens level table (limit_masks level))
 
 -- the least polygon that does not have four corners
 pub record IsFirstOther (polygons : List Polygon) (face : ℕ) : Type 0 where

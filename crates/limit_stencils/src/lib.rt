@@ -5,6 +5,7 @@
 //! profile decides which points have no limit mask.
 #![tactic(auto)]
 
+mod bound;
 mod cause;
 mod fault;
 mod lasting;
@@ -15,5 +16,6 @@ mod smooth;
 mod table;
 mod weigh;
 
+pub use bound::denominator_bound;
 pub use fault::{LimitFault, QuadFault};
 pub use table::{limit_table, limit_table_of_quads};

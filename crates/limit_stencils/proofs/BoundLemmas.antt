@@ -1,0 +1,150 @@
+-- No common denominator of a limit point passes the greatest denominator of a mask times a multiple of all denominators of the table.
+use Rattle.std.proofs.Common.{◌≡◌, ℕ, zero, suc, ◌+◌, ◌*◌, ◌<◌, ◌≤◌, Bool, true, false, max, List, [], ◌∷◌, ◌++◌, length, map, get_or, Option, Some, None, IfSome, ◌⊎◌, inl, inr, arith, refl, ap, sym, subst, ◌∙◌}
+use Rattle.std.specs.Int.{◌∣◌}
+use Rattle.std.specs.List.{All, AllByRecursion, list_all}
+use Rattle.std.proofs.lemmas.Bool.{and_parts, cases_lt, false≢true}
+use Rattle.std.proofs.lemmas.List.{length-map, get_or-map, get_or_past}
+use Rattle.std.proofs.lemmas.List.FromFn.{length-map-range_with_len}
+use Rattle.std.proofs.lemmas.List.Elements.{All-from_recursion}
+use Rattle.std.proofs.lemmas.Nat.{mul-le}
+use Rattle.std.proofs.lemmas.Nat.Gcd.{le_of_dvd}
+use Rattle.std.proofs.Math.Nat.{one-dvd}
+use Rattle.subdiv_model.specs.Rule.{Rule, SmoothRule, DartRule, CreaseRule, CornerRule}
+use Rattle.subdiv_model.specs.Level.{Level, vertex_sharpness_of, edges_at, ring_at}
+use Rattle.subdiv_model.specs.Mask.{SourcePoint, OfPoint, OfFace, Term, Mask, mask_of, weigh, weigh_points, corner_mask, ends_at, other_end}
+use Rattle.subdiv_model.specs.Multiples.{lcm_of_all}
+use Rattle.subdiv_model.specs.Refined.{mask_denominator, source_denominator}
+use Rattle.subdiv_model.specs.Limit.{limit_of_rule, limit_mask, limit_masks, mask_or_itself, opposites_at, has_semi_sharp, lasting_rule}
+use Rattle.number_laws.proofs.MultipleLemmas.{each-divides, least-of-all}
+use Rattle.mask_laws.proofs.ListLemmas.{all-append}
+use Rattle.mask_laws.proofs.SourceLemmas.{are_from, from-mask_of, from-points}
+use Rattle.child_masks.specs.Survey.{within_bound}
+use Rattle.child_masks.proofs.DenLemmas.{dens-positive}
+use Rattle.child_masks.proofs.WithinLemmas.{within-some}
+use Rattle.stencil_apply.specs.Means.{word_bound}
+use Rattle.stencil_apply.specs.Table.{Table, IsTable}
+use Rattle.stencil_factory.specs.Rows.{dens_of}
+use Rattle.stencil_factory.specs.MaskRows.{mask_dens, no_mask}
+use Rattle.stencil_factory.proofs.SurveyLemmas.{point-dens}
+use Rattle.limit_stencils.specs.Limits.{IsDenominatorBound}
+use Rattle.limit_stencils.proofs.WeightLemmas.{mask-there}
+
+-- Limit masks name points only, and their denominators have a bound.
+
+abbrev is_point : SourcePoint → Bool
+is_point (OfPoint v) = true
+is_point (OfFace f) = false
+
+all-points : (points : List ℕ) → list_all (λ v. is_point (OfPoint v)) points ≡ true
+all-points [] = refl
+all-points (v ∷ points) = all-points points
+
+abbrev IsWithin : ℕ → Mask → Type 0
+IsWithin most mask = (mask.denominator ≤ most) × (are_from is_point mask.terms ≡ true)
+
+module _ (v most : ℕ) (ends opposites : List ℕ) (smooth : length ends * (length ends + 5) ≤ most) (crease : 6 ≤ most) where
+  corner-within : IsWithin most (corner_mask v)
+  corner-within = (omega (arith, crease), from-mask_of is_point (weigh 1 (OfPoint v) ∷ []) 1 refl)
+
+  smooth-within : IsWithin most (mask_of (weigh (length ends * length ends) (OfPoint v) ∷ (weigh_points 4 ends ++ weigh_points 1 opposites)) (length ends * (length ends + 5)))
+  smooth-within =
+      (smooth, from-mask_of is_point (weigh (length ends * length ends) (OfPoint v) ∷ (weigh_points 4 ends ++ weigh_points 1 opposites)) (length ends * (length ends + 5))
+      (all-append (λ t. is_point t.source) (weigh_points 4 ends) (weigh_points 1 opposites)
+      (from-points is_point 4 ends (all-points ends)) (from-points is_point 1 opposites (all-points opposites))))
+
+  rule-within : (semi : Bool) (rule : Rule) → IsWithin most (mask_or_itself v (limit_of_rule v ends opposites semi rule))
+  rule-within true SmoothRule = corner-within
+  rule-within true DartRule = corner-within
+  rule-within true (CreaseRule first second) = corner-within
+  rule-within true CornerRule = corner-within
+  rule-within false SmoothRule = smooth-within
+  rule-within false DartRule = corner-within
+  rule-within false (CreaseRule first second) =
+      (crease, from-mask_of is_point (weigh 4 (OfPoint v) ∷ weigh_points 1 (get_or ends first 0 ∷ get_or ends second 0 ∷ [])) 6 refl)
+  rule-within false CornerRule = corner-within
+
+within-at : (level : Level) (v n most : ℕ) → length (edges_at level v) ≤ n → most ≡ max (n * (n + 5)) 6 → IsWithin most (limit_mask level v)
+within-at level v n most few is =
+    let count : length (ends_at level v) ≡ length (edges_at level v) = length-map (edges_at level v) (other_end v) in
+    rule-within v most (ends_at level v) (opposites_at level v) (grown (length (ends_at level v)) n most (omega (arith, few, count)) (omega (arith, is))) (omega (arith, is))
+    (has_semi_sharp (vertex_sharpness_of level v) (ring_at level v)) (lasting_rule (vertex_sharpness_of level v) (ring_at level v))
+  where
+    grown : (a n most : ℕ) → a ≤ n → n * (n + 5) ≤ most → a * (a + 5) ≤ most
+    grown a n most le h = omega (arith, mul-le a (a + 5) n (n + 5) le (omega (arith, le)))
+
+-- the denominator of a limit mask is below a bound from the greatest number of edges
+pub mask-short : (level : Level) (v n most : ℕ) → length (edges_at level v) ≤ n → most ≡ max (n * (n + 5)) 6 → (limit_mask level v).denominator ≤ most
+mask-short level v n most few is = (within-at level v n most few is).0
+
+points-only : (level : Level) (v : ℕ) → are_from is_point (limit_mask level v).terms ≡ true
+points-only level v = (within-at level v (length (edges_at level v)) (max (length (edges_at level v) * (length (edges_at level v) + 5)) 6) (omega arith) refl).1
+
+-- A multiple of all denominators of points.
+module _ (level : Level) (dens : List ℕ) (positive : All (λ den. 0 < den) dens) (common : ℕ) (some : 0 < common) (multiple : All (λ den. den ∣ common) dens) where
+  abbrev of_source : SourcePoint → ℕ
+  of_source = source_denominator level dens
+
+  divides : (v : ℕ) → get_or dens v 1 ∣ common
+  divides v = at (cases_lt v (length dens))
+    where
+      at : (v < length dens) ⊎ (length dens ≤ v) → get_or dens v 1 ∣ common
+      at (inl inside) = multiple v 1 inside
+      at (inr past) = subst (λ (den : ℕ). den ∣ common) (sym (get_or_past dens v 1 past)) (one-dvd common)
+
+  all-positive : (terms : List Term) → are_from is_point terms ≡ true → AllByRecursion (λ den. 0 < den) (map (λ t. of_source t.source) terms)
+  all-positive [] h = tt
+  all-positive (t ∷ terms) h =
+      let parts = and_parts (is_point t.source) (are_from is_point terms) h in (own t.source parts.0, all-positive terms parts.1)
+    where
+      own : (source : SourcePoint) → is_point source ≡ true → 0 < of_source source
+      own (OfPoint v) k = dens-positive dens positive v
+      own (OfFace f) k = absurd (false≢true k)
+
+  all-divide : (terms : List Term) → are_from is_point terms ≡ true → AllByRecursion (λ den. den ∣ common) (map (λ t. of_source t.source) terms)
+  all-divide [] h = tt
+  all-divide (t ∷ terms) h =
+      let parts = and_parts (is_point t.source) (are_from is_point terms) h in (own t.source parts.0, all-divide terms parts.1)
+    where
+      own : (source : SourcePoint) → is_point source ≡ true → of_source source ∣ common
+      own (OfPoint v) k = divides v
+      own (OfFace f) k = absurd (false≢true k)
+
+  -- the common denominator of a mask over points
+  mask-limited : (mask : Mask) (most : ℕ) → mask.denominator ≤ most → are_from is_point mask.terms ≡ true → mask_denominator of_source mask ≤ most * common
+  mask-limited mask most short points =
+      let numbers = map (λ t. of_source t.source) mask.terms in
+      mul-le mask.denominator (lcm_of_all numbers) most common short
+      (le_of_dvd some (least-of-all numbers common (All-from_recursion (λ den. 0 < den) numbers (all-positive mask.terms points))
+      (All-from_recursion (λ den. den ∣ common) numbers (all-divide mask.terms points))))
+
+-- the product of the greatest denominator of a mask and the least common multiple of the table's denominators
+dens-limited : (level : Level) (table : Table) (common most : ℕ) → IsTable table → length table.rows ≡ level.point_count
+    → 0 < common → common ≡ lcm_of_all (dens_of table) → ((v : ℕ) → v < level.point_count → (limit_mask level v).denominator ≤ most)
+    → All (λ den. den ≤ most * common) (mask_dens level table (limit_masks level))
+dens-limited level table common most is each some lcm short k d inside =
+    let dens = dens_of table in
+    let own = mask_denominator (source_denominator level dens) in
+    let points : length (limit_masks level) ≡ level.point_count = length-map-range_with_len (limit_mask level) 0 level.point_count in
+    let below : k < length (limit_masks level) = omega (arith, inside, length-map (limit_masks level) own) in
+    let there : k < level.point_count = omega (arith, below, points) in
+    let multiple : All (λ den. den ∣ common) dens = subst (λ n. All (λ den. den ∣ n) dens) (sym lcm) (each-divides dens) in
+    subst (λ den. den ≤ most * common) (ap own (mask-there level k there) ∙ sym (get_or-map own (limit_masks level) k no_mask d below))
+    (mask-limited level dens (point-dens table level is each).positive common some multiple (limit_mask level k) most (short k there) (points-only level k))
+
+-- the product, if it is at most 2^63 - 1
+pub bound-found : (level : Level) (table : Table) (dens : List ℕ) (common most : ℕ) (r : Option ℕ) → IsTable table → length table.rows ≡ level.point_count
+    → dens ≡ dens_of table → (common ≡ 0 → ⊥) → common ≡ within_bound (lcm_of_all dens)
+    → ((v : ℕ) → v < level.point_count → (limit_mask level v).denominator ≤ most) → IfSome r (λ product. product ≡ most * common) → IfSome r (λ product. product ≤ word_bound)
+    → IfSome r (IsDenominatorBound level table)
+bound-found level table dens common most None is each same other lcm short made word = tt
+bound-found level table dens common most (Some product) is each same other lcm short made word =
+    let some : 0 < common = above common other in
+    let exact : common ≡ lcm_of_all (dens_of table) = within-some common (lcm_of_all dens) some lcm ∙ ap lcm_of_all same in
+    record {
+      short = word;
+      dens = subst (λ n. All (λ den. den ≤ n) (mask_dens level table (limit_masks level))) (sym made) (dens-limited level table common most is each some exact short);
+    }
+  where
+    above : (n : ℕ) → (n ≡ 0 → ⊥) → 0 < n
+    above zero h = absurd (h refl)
+    above (suc n) h = omega arith

@@ -1,0 +1,67 @@
+//! A bound on the common denominators of the limit points of a level.
+
+ghost use Rattle.std.specs.Prelude.{◌≡◌, ℕ, ◌<◌, ◌≤◌, length, IfSome};
+ghost use Rattle.std.specs.List.{All};
+ghost use Rattle.subdiv_model.specs.Level.{edges_at};
+ghost use Rattle.subdiv_model.specs.Limit.{limit_mask};
+ghost use Rattle.subdiv_model.specs.Multiples.{lcm_of_all};
+ghost use Rattle.subdiv_model.specs.Channel.{number_bound};
+ghost use Rattle.child_masks.specs.Survey.{within_bound};
+ghost use Rattle.limit_stencils.specs.Limits.{IsDenominatorBound};
+
+use child_masks::common_multiple;
+use level_topology::Level;
+use ratio128::times_within;
+use stencil_apply::StencilTable;
+
+// The greatest signed 64-bit number.
+const WORD_BOUND: u128 = (1 << 63) - 1;
+
+// Returns the least common multiple of the denominators, or 0 if it is above 2^126 - 1.
+fn multiple_of(dens: &[u128]) -> u128
+    requires positive { All (λ den. 0 < den) dens.now }
+    requires short { All (λ den. den ≤ number_bound) dens.now }
+    ensures { result ≡ within_bound (lcm_of_all dens.now) }
+{
+    let mut multiple = 1;
+    for den in dens {
+        multiple = common_multiple(multiple, *den);
+    }
+    multiple
+}
+
+// Returns the greatest number of edges at a point, or 0 for a level without points.
+fn greatest_valence(level: &Level) -> u32
+    ensures { (v : ℕ) → v < level.now.level.point_count → length (edges_at level.now.level v) ≤ result }
+{
+    let mut greatest = 0;
+    for v in 0..level.points() {
+        greatest = greatest.max(level.valence(v));
+    }
+    greatest
+}
+
+// Returns a number that the denominator of no limit mask of the level passes.
+fn mask_bound(level: &Level) -> u128
+    ensures { (v : ℕ) → v < level.now.level.point_count → (limit_mask level.now.level v).denominator ≤ result }
+{
+    let valence = u128::from(greatest_valence(level));
+    (valence * (valence + 5)).max(6)
+}
+
+/// Returns a number of at most 2^63 - 1 that the common denominator of no limit point of the level passes. Returns `None` if this call
+/// finds none. The call takes no memory.
+///
+/// `table` has a row for each point of the level. The number is the greatest denominator of a limit mask, times the least common multiple
+/// of all denominators of `table`.
+pub fn denominator_bound(level: &Level, table: &StencilTable) -> Option<u128>
+    requires { length table.now.rows ≡ level.now.level.point_count }
+    ensures { IfSome result (IsDenominatorBound level.now.level table.now) }
+{
+    table.facts();
+    let multiple = multiple_of(table.denominators());
+    if multiple == 0 {
+        return None;
+    }
+    times_within(mask_bound(level), multiple, WORD_BOUND)
+}
