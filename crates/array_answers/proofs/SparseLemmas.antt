@@ -1,5 +1,5 @@
 -- The sparse levels of a mesh and of arrays.
-use Rattle.std.proofs.Common.{◌≡◌, ℕ, ◌≤◌, Some, inr, Result, Ok, Err, MatchResult, length, get_or, arith, ap, sym, subst, ◌∙◌}
+use Rattle.std.proofs.Common.{◌≡◌, ℕ, ◌≤◌, List, Some, inr, Result, Ok, Err, MatchResult, length, get_or, arith, ap, sym, subst, ◌∙◌}
 use Rattle.std.specs.List.{All}
 use Rattle.std.proofs.lemmas.List.{length-map}
 use Rattle.std.proofs.lemmas.List.Elements.{length_all_zip}
@@ -22,8 +22,8 @@ use Rattle.array_answers.specs.declared.sparse.SparseArrays.{SparseArrays}
 use Rattle.array_answers.proofs.AnswerLemmas.{all-can-be-put}
 
 -- a level has a value for each of its written points
-one-for-each : (common : ℕ) (level : SparseValues Point3) (track : SparseTrack Point) (k : ℕ) → IsPointsLevel common level (points_part track k) → length level.values.items ≡ level.faces.point_count
-one-for-each common level track k is =
+one-for-each : (common : ℕ) (dens : List ℕ) (level : SparseValues Point3) (track : SparseTrack Point) (k : ℕ) → IsPointsLevel common dens level (points_part track k) → length level.values.items ≡ level.faces.point_count
+one-for-each common dens level track k is =
     sym (length-map level.values.items (point_of common)) ∙ length_all_zip IsSamePoint (points_of common level.values.items) (points_part track k).values is.same
     ∙ length-map (written_points track.base track.predicate k) _ ∙ ap (λ (l : WrittenLevel). l.point_count) (sym is.faces)
 
@@ -37,7 +37,7 @@ sparse-of options mesh found few common are = record {
   put = λ k d h.
       let level = get_or found.levels.items k d in
       let is = are.each k d h in record {
-        valued = one-for-each mesh.common level (sparse_positions options mesh) k is;
+        valued = one-for-each mesh.common _ level (sparse_positions options mesh) k is;
         put = all-can-be-put found.common level.values.items (subst (λ n. All (CanBeWritten n) level.values.items) (sym common) is.written);
       };
 }

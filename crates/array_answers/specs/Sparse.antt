@@ -28,7 +28,8 @@ sparse_options depth select = record { depth = depth; select = select; decimals 
 abbrev pub sparse_asked : SparseRequest → Option SparseOptions
 sparse_asked request = if nat_le request.depth 10 then option_map (sparse_options request.depth) (select_of_number request.select) else None
 
--- the sparse levels of a mesh that is not refused, over its common denominator
+-- The sparse levels of a mesh that is not refused, over its common denominator. `ArePointsLevels` also gives the own denominator of each
+-- point: that of its row in the table of the whole level.
 pub record AreSparseOf (options : SparseOptions) (mesh : ObjMesh) (found : SparseArrays) : Type 0 where
   pub common : found.common ≡ mesh.common
   pub levels : ArePointsLevels options mesh found.levels.items

@@ -31,7 +31,8 @@ pub struct SparseRequest {
     pub select: u32,
 }
 
-/// The sparse levels of a mesh from level 0 on. The numerators of a point are over its own denominator times the common one.
+/// The sparse levels of a mesh from level 0 on. The numerators of a point are over its own denominator times the common one. Its own
+/// denominator is that of its row in the table of the whole level.
 #[derive(Drop)]
 pub struct SparseArrays {
     /// The common denominator of the mesh.

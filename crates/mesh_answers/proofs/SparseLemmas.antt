@@ -22,6 +22,7 @@ use Rattle.ratio128.specs.StepsTaken.{StepsTaken}
 use Rattle.ratio128.specs.declared.point.Point3.{Point3}
 use Rattle.channel_refine.specs.Refined.{AreControls}
 use Rattle.channel_refine.specs.Evaluated.{control_rows}
+use Rattle.channel_refine.proofs.ValueLemmas.{dens-of-rows}
 use Rattle.sparse_channel.specs.Refined.{AreSparseLevels, AreSparseSteps, AreSparseTo, IsSparseCause, IsSparseFaultTo, IsSparseLevel, SparseRows}
 use Rattle.sparse_channel.specs.View.{sparse_rows}
 use Rattle.sparse_faces.specs.declared.values.SparseValues.{SparseValues}
@@ -32,7 +33,7 @@ use Rattle.far_text.specs.Points.{CanBeWritten}
 use Rattle.subdiv_model.specs.SparseFaults.{sparse_faults}
 use Rattle.subdiv_model.specs.Channel.{Tables}
 use Rattle.mesh_answers.specs.Refusals.{IsFound}
-use Rattle.mesh_answers.specs.SparseLevels.{ArePointsLevels, ArePointsLevelsFound, IsPointsLevel, IsWithinLimits, sparse_position_faults, sparse_position_refusal}
+use Rattle.mesh_answers.specs.SparseLevels.{ArePointsLevels, ArePointsLevelsFound, IsPointsLevel, IsWithinLimits, sparse_position_faults, sparse_position_refusal, written_denominators}
 use Rattle.mesh_answers.specs.StepCounts.{sparse_position_steps}
 use Rattle.mesh_answers.proofs.RefusalLemmas.{refusal-of-small}
 use Rattle.mesh_answers.proofs.ReplyLemmas.{any-steps}
@@ -48,7 +49,8 @@ same-columns mesh k first second =
 
 -- a level with its values is one
 pub level-written : (options : SparseOptions) (mesh : ObjMesh) (points : List Point3) (k : ℕ) (level : SparseValues Point3) → map reader.point_of points ≡ mesh.points → 0 < mesh.common →
-    IsSparseLevel (positions_of mesh) (predicate_for options mesh) (control_rows (map numbers points)) k (sparse_rows numbers level) → IsPointsLevel mesh.common level (points_part (sparse_positions options mesh) k)
+    IsSparseLevel (positions_of mesh) (predicate_for options mesh) (control_rows (map numbers points)) k (sparse_rows numbers level) →
+    IsPointsLevel mesh.common (written_denominators (positions_of mesh) (predicate_for options mesh) k) level (points_part (sparse_positions options mesh) k)
 level-written options mesh points k level said some is =
     let channel = positions_of mesh in
     let predicate = predicate_for options mesh in
@@ -66,6 +68,7 @@ level-written options mesh points k level said some is =
     let can : All (CanBeWritten mesh.common) values = can-be-written numbers mesh.common channel.greatest _ (written-point mesh.common) some values is.positive is.short is.within in
     record {
       faces = is.written;
+      dens = dens-of-rows numbers values ∙ is.dens;
       same = same-written mesh.common xs ys zs (same-columns mesh k (λ p. p.0) (λ p. p.1)) (same-columns mesh k (λ p. p.1) (λ p. p.2)) written values x y z;
       positive = positive-written mesh.common xs ys zs some written x.positive y.positive z.positive;
       written = can;

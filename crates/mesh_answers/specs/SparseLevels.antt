@@ -9,12 +9,15 @@ use Rattle.subdiv_model.specs.Value.{Value}
 use Rattle.subdiv_model.specs.Refined.{Point}
 use Rattle.subdiv_model.specs.Cut.{channel_values}
 use Rattle.subdiv_model.specs.ObjMesh.{ObjMesh}
-use Rattle.subdiv_model.specs.Channel.{Tables}
+use Rattle.subdiv_model.specs.Channel.{Channel, Tables, denominators_after}
+use Rattle.subdiv_model.specs.Sparse.{FacePredicate}
+use Rattle.subdiv_model.specs.SparseText.{written_points}
 use Rattle.subdiv_model.specs.Fault.{Fault, Positions}
 use Rattle.subdiv_model.specs.SparseFaults.{sparse_faults}
 use Rattle.subdiv_model.specs.SparseTexture.{SparsePart, points_part, texture_part}
 use Rattle.far_model.specs.Command.{SparseOptions, Uv}
 use Rattle.far_model.specs.Answer.{predicate_for, positions_of, sparse_positions, sparse_texture, sparse_texture_faults, sparse_uv, texture_of}
+use Rattle.sparse_values.specs.Uniform.{items_at}
 use Rattle.ratio128.specs.declared.point.Point2.{Point2}
 use Rattle.ratio128.specs.declared.point.Point3.{Point3}
 use Rattle.raw_mesh.specs.View.{texture_of as value_of}
@@ -45,9 +48,15 @@ pub record AreSparseTracks (options : SparseOptions) (mesh : ObjMesh) (tracks : 
   pub positions : tracks.positions ≡ positions_of mesh
   pub texture : IsSparseBase (sparse_uv options mesh) mesh tracks.texture
 
--- A level is that of the definitions. Its values are the written points, in any terms, over the common denominator.
-pub record IsPointsLevel (common : ℕ) (level : SparseValues Point3) (part : SparsePart Point) : Type 0 where
+-- the denominators of the written points of a sparse level: those of the points in the whole level
+abbrev pub written_denominators : Channel → FacePredicate → ℕ → List ℕ
+written_denominators channel predicate k = items_at (written_points channel.base predicate k) 1 (denominators_after channel k)
+
+-- A level is that of the definitions. Its values are the written points, over the common denominator. Each value has its own
+-- denominator as given.
+pub record IsPointsLevel (common : ℕ) (denominators : List ℕ) (level : SparseValues Point3) (part : SparsePart Point) : Type 0 where
   pub faces : level.faces ≡ part.level
+  pub dens : map (λ value. value.den) level.values.items ≡ denominators
   pub same : AllZip IsSamePoint (points_of common level.values.items) part.values
   pub positive : All HasDenominators part.values
   pub written : All (CanBeWritten common) level.values.items
@@ -68,7 +77,8 @@ pub record ArePointsLevels (options : SparseOptions) (mesh : ObjMesh) (levels : 
   pub mesh_is : IsWithinLimits mesh
   pub fine : sparse_position_faults options mesh ≡ []
   pub count : length levels ≡ options.depth + 1
-  pub each : (k : ℕ) (d : SparseValues Point3) → k < length levels → IsPointsLevel mesh.common (get_or levels k d) (points_part (sparse_positions options mesh) k)
+  pub each : (k : ℕ) (d : SparseValues Point3) → k < length levels
+      → IsPointsLevel mesh.common (written_denominators (positions_of mesh) (predicate_for options mesh) k) (get_or levels k d) (points_part (sparse_positions options mesh) k)
 
 -- the sparse levels of a texture that is refined by this rule, without fault
 pub record AreTextureLevels (options : SparseOptions) (mesh : ObjMesh) (mode : Uv) (levels : List (SparseValues Point2)) : Type 0 where

@@ -74,7 +74,7 @@ pub(crate) fn selected_points<L: Ledger>(
 }
 
 /// Returns the sparse levels of the positions of a mesh from 0 to a depth of at most 10, each with its written points. The options select
-/// the faces to refine; the call ignores their decimals and `uv`.
+/// the faces to refine; the call ignores their decimals and `uv`. A point has the denominator of its row in the table of the whole level.
 ///
 /// The call counts at most one step for each present face of the levels from 0 to the depth, and for each entry of their present points.
 ///
