@@ -25,6 +25,7 @@ use Rattle.ratio128.specs.declared.point.Point2.{Point2}
 use Rattle.ratio128.specs.declared.valued.Valued.{Valued}
 use Rattle.channel_refine.specs.Refined.{AreControls}
 use Rattle.channel_refine.specs.Evaluated.{control_rows}
+use Rattle.channel_refine.proofs.ValueLemmas.{dens-of-rows}
 use Rattle.sparse_channel.specs.Refined.{AreSparseLevels, IsSparseFault, IsSparseLevel}
 use Rattle.sparse_channel.specs.View.{sparse_rows}
 use Rattle.sparse_faces.specs.declared.values.SparseValues.{SparseValues}
@@ -35,7 +36,7 @@ use Rattle.sparse_texture_laws.proofs.SelectionLemmas.{cut-selection}
 use Rattle.far_fault.specs.Walk.{walk_fault_of}
 use Rattle.far_text.specs.Texture.{texture_points_of, HasTextureDenominators, IsSameTexturePoint}
 use Rattle.mesh_answers.specs.Refusals.{IsFound}
-use Rattle.mesh_answers.specs.SparseLevels.{AreTextureLevels, IsTextureLevel, sparse_texture_refusal}
+use Rattle.mesh_answers.specs.SparseLevels.{AreTextureLevels, IsTextureLevel, sparse_texture_refusal, written_denominators}
 use Rattle.mesh_answers.specs.StepCounts.{sparse_texture_steps, where_sparse_texture}
 use Rattle.mesh_answers.proofs.ReplyLemmas.{any-steps}
 use Rattle.mesh_answers.proofs.ColumnLemmas.{IsColumn, scaled, column-behind, column-seen, can-be-written}
@@ -88,7 +89,7 @@ module _ (common : ℕ) (us vs : List Value) where
 -- a level with its values is one
 level-written : (options : SparseOptions) (mesh : ObjMesh) (mode : Uv) (values : List Point2) (k : ℕ) (level : SparseValues Point2) → map value_of values ≡ channel_values mesh →
     0 < mesh.texture_common → IsSparseLevel (texture_of mesh mode) (texture_predicate options mesh) (control_rows (map numbers values)) k (sparse_rows numbers level) →
-    IsTextureLevel mesh.texture_common level (texture_part (sparse_texture options mesh mode) k)
+    IsTextureLevel mesh.texture_common (written_denominators (texture_of mesh mode) (texture_predicate options mesh) k) level (texture_part (sparse_texture options mesh mode) k)
 level-written options mesh mode values k level said some is =
     let channel = texture_of mesh mode in
     let predicate = texture_predicate options mesh in
@@ -105,6 +106,7 @@ level-written options mesh mode values k level said some is =
     (length-map (channel_values mesh) (λ p. p.0) ∙ sym (length-map (channel_values mesh) (λ p. p.1))) in
     record {
       faces = is.written;
+      dens = dens-of-rows numbers points ∙ is.dens;
       same = same-written mesh.texture_common us vs alike written points u v;
       positive = All-from_recursion HasTextureDenominators _ (positive-by mesh.texture_common us vs some written u.positive v.positive);
       written = can-be-written numbers mesh.texture_common channel.greatest _ (written-value mesh.texture_common) some points is.positive is.short is.within;

@@ -16,7 +16,7 @@ use Rattle.subdiv_model.specs.Fault.{Fault, Positions}
 use Rattle.subdiv_model.specs.SparseFaults.{sparse_faults}
 use Rattle.subdiv_model.specs.SparseTexture.{SparsePart, points_part, texture_part}
 use Rattle.far_model.specs.Command.{SparseOptions, Uv}
-use Rattle.far_model.specs.Answer.{predicate_for, positions_of, sparse_positions, sparse_texture, sparse_texture_faults, sparse_uv, texture_of}
+use Rattle.far_model.specs.Answer.{predicate_for, positions_of, sparse_positions, sparse_texture, sparse_texture_faults, sparse_uv, texture_of, texture_predicate}
 use Rattle.sparse_values.specs.Uniform.{items_at}
 use Rattle.ratio128.specs.declared.point.Point2.{Point2}
 use Rattle.ratio128.specs.declared.point.Point3.{Point3}
@@ -61,9 +61,11 @@ pub record IsPointsLevel (common : ℕ) (denominators : List ℕ) (level : Spars
   pub positive : All HasDenominators part.values
   pub written : All (CanBeWritten common) level.values.items
 
--- A level of texture is that of the definitions. Its values are the written texture points, in any terms, over the common denominator.
-pub record IsTextureLevel (common : ℕ) (level : SparseValues Point2) (part : SparsePart (Value × Value)) : Type 0 where
+-- A level of texture is that of the definitions. Its values are the written texture points, over the common denominator. Each value has
+-- its own denominator as given.
+pub record IsTextureLevel (common : ℕ) (denominators : List ℕ) (level : SparseValues Point2) (part : SparsePart (Value × Value)) : Type 0 where
   pub faces : level.faces ≡ part.level
+  pub dens : map (λ value. value.den) level.values.items ≡ denominators
   pub same : AllZip IsSameTexturePoint (texture_points_of common level.values.items) part.values
   pub positive : All HasTextureDenominators part.values
   pub written : All (CanTextureBeWritten common) level.values.items
@@ -85,7 +87,8 @@ pub record AreTextureLevels (options : SparseOptions) (mesh : ObjMesh) (mode : U
   pub fine : sparse_texture_faults options mesh (Some mode) ≡ []
   pub count : length levels ≡ options.depth + 1
   pub each : (k : ℕ) (d : SparseValues Point2) → k < length levels
-      → IsTextureLevel mesh.texture_common (get_or levels k d) (texture_part (sparse_texture options mesh mode) k)
+      → IsTextureLevel mesh.texture_common (written_denominators (texture_of mesh mode) (texture_predicate options mesh) k) (get_or levels k d)
+      (texture_part (sparse_texture options mesh mode) k)
 
 -- the sparse levels of the texture, if the options ask for it
 abbrev pub AreSparseTexture : SparseOptions → ObjMesh → List (SparseValues Point2) → Type 0
