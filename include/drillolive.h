@@ -402,8 +402,8 @@ typedef struct drillolive_sparse_counts {
     size_t levels, points, faces, corners;
 } drillolive_sparse_counts;
 
-/* Makes the sparse levels from 0 to a depth of at most 10. Each point has the value that it has in the whole level. Errors as for a table, for the kept
-   faces and points. */
+/* Makes the sparse levels from 0 to a depth of at most 10. Each point has the value that it has in the whole level. The denominator of an exact point
+   is that of its row in the exact table of that level, times the common denominator of the mesh. Errors as for a table, for the kept faces and points. */
 drillolive_fault drillolive_sparse_new(const drillolive_mesh *mesh, uint32_t depth, enum drillolive_select select, enum drillolive_form form,
                                        drillolive_sparse **out);
 void drillolive_sparse_free(drillolive_sparse *sparse);

@@ -164,6 +164,7 @@ uint32_t far_mesh_faults(const struct far_mesh *mesh, uint64_t *count, struct fa
 uint32_t far_origins(const struct far_mesh *mesh, uint32_t depth, struct far_origin_counts *counts, struct far_origin_places *places,
                      struct far_fault *fault);
 
+/* The denominator of a point is that of its row in the table of the whole level, times the scale of the mesh. */
 uint32_t far_sparse(const struct far_mesh *mesh, const struct far_sparse_request *request, struct far_sparse_counts *counts,
                     struct far_sparse_places *places, struct far_fault *fault);
 

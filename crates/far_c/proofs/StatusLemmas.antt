@@ -80,7 +80,7 @@ module _ (mesh : MeshArrays) (request : RowRequest) (fault : FaultRecord) where
   table-refused long_enough Written old counts is = inr (inr (request-status (rows_asked request) mesh fault is, refl, (is, refl)))
 
 -- the own denominators of points, times a common one
-own-denominators : (common : ℕ) (points : List (Valued Point3)) → all_denominators common points ≡ map (λ den. den * common) (map (λ point. point.den) points)
+pub own-denominators : (common : ℕ) (points : List (Valued Point3)) → all_denominators common points ≡ map (λ den. den * common) (map (λ point. point.den) points)
 own-denominators common [] = refl
 own-denominators common (point ∷ points) = ap (λ dens. point.den * common ∷ dens) (own-denominators common points)
 

@@ -12,8 +12,8 @@ use mesh_arrays::MeshArrays;
 use sparse_arrays::{SparseCounts, SparsePlaces, counts_of, put_sparse};
 use std::alloc::Global;
 
-/// Writes the requested sparse levels of a mesh with their points, and the counts of all levels. If an array is too short, it writes only
-/// the counts.
+/// Writes the requested sparse levels of a mesh with their points, and the counts of all levels. The denominator of a point is that of its
+/// row in the table of the whole level, times the common one of the mesh. If an array is too short, it writes only the counts.
 #[unsafe(no_mangle)]
 pub extern "C" fn far_sparse(
     alloc: Global,
