@@ -9,7 +9,7 @@ use Rattle.subdiv_model.specs.Lists.{first_of}
 use Rattle.subdiv_model.specs.Base.{base_level}
 use Rattle.subdiv_model.specs.Fault.{Fault, Place, Positions}
 use Rattle.subdiv_model.specs.Feature.{FaceFacts}
-use Rattle.subdiv_model.specs.Channel.{Channel, Sharpnesses}
+use Rattle.subdiv_model.specs.Channel.{Sharpnesses}
 use Rattle.subdiv_model.specs.Level.{Level}
 use Rattle.subdiv_model.specs.ObjMesh.{ObjMesh}
 use Rattle.subdiv_model.specs.Polygons.{polygon_at}
@@ -20,8 +20,6 @@ use Rattle.far_model.specs.Command.{MapOptions}
 use Rattle.far_model.specs.Answer.{map_leaf, map_mesh_faults, predicate_by, positions_of, test_of}
 use Rattle.uniform_walk.proofs.FaultLemmas.{first-behind}
 use Rattle.level_topology.specs.Topology.{Topology}
-use Rattle.level_walk.specs.declared.fault.Cause.{Cause}
-use Rattle.level_walk.specs.declared.fault.Cause.TheVariants.{TooManyFaces, Overflow, TooManyEntries, Memory}
 use Rattle.level_walk.specs.declared.fault.WalkFault.{WalkFault}
 use Rattle.mesh_check.specs.Checked.{IsAccepted}
 use Rattle.patch_map.specs.Map.{LevelMap}
@@ -30,10 +28,10 @@ use Rattle.patch_map.specs.View.{location_of}
 use Rattle.patch_map.specs.declared.leaf.Leaf.{Leaf}
 use Rattle.ratio128.specs.StepsTaken.{StepsTaken}
 use Rattle.sparse_walk.specs.Base.{IsSparseBase}
-use Rattle.sparse_walk.specs.Faults.{HasNoSparseFault, IsFaultAt, IsSparseFault}
+use Rattle.sparse_walk.specs.Faults.{HasNoSparseFault, IsSparseFault}
 use Rattle.sparse_walk.specs.Levels.{AreSparseSteps}
 use Rattle.far_fault.specs.View.{fault_of, place_fault_of}
-use Rattle.far_fault.specs.Walk.{fault_at, walk_fault_of}
+use Rattle.far_fault.specs.Walk.{walk_fault_of}
 use Rattle.far_fault.specs.declared.fault.FarFault.{FarFault}
 use Rattle.far_fault.specs.declared.fault.PlaceFault.{PlaceFault}
 use Rattle.far_text.specs.MapLines.{placed_leaf_line}
@@ -47,26 +45,21 @@ use Rattle.mesh_answers.specs.StepCounts.{later_present, step_limit}
 use Rattle.mesh_answers.proofs.PositionLemmas.{base-of}
 use Rattle.mesh_answers.proofs.RefusalLemmas.{found-here, refusal-of-small}
 use Rattle.mesh_answers.proofs.ReplyLemmas.{any-steps}
+use Rattle.mesh_answers.proofs.SparseLemmas.{found-of-cause}
 
 -- level 0 of a mesh is a start of sparse levels
 pub sparse-base : (mesh : ObjMesh) (level : Topology) → IsAccepted mesh level → IsSparseBase level
 sparse-base mesh level accepted = let base = base-of mesh level accepted in record { complete = base.complete; boundary = base.boundary }
 
--- the first fault of sparse levels without values, by its cause
-found-of-cause : (channel : Channel) (options : MapOptions) (mesh : ObjMesh) (k : ℕ) (cause : Cause) → channel ≡ positions_of mesh →
-    IsFaultAt Sharpnesses (base_level mesh) (predicate_by options.select options.depth mesh) options.depth k cause → IsFound (fault_at Positions k cause) (map_level_refusal options mesh)
-found-of-cause channel options mesh k (TooManyFaces count) same is = is (positions_of mesh) refl Positions
-found-of-cause channel options mesh k (Overflow kind) same is = is (positions_of mesh) refl Positions
-found-of-cause channel options mesh k TooManyEntries same is = is (positions_of mesh) refl Positions
-found-of-cause channel options mesh k Memory same is = tt
-
 -- The result of the walk over sparse levels for a mesh.
 module _ (options : MapOptions) (mesh : ObjMesh) (level : Topology) (accepted : IsAccepted mesh level) (test : FaceFacts → Bool) (named : test ≡ test_of options.select) where
   pub map-failed : (fault : WalkFault) → IsSparseFault Sharpnesses level.level test options.depth fault → IsFound (walk_fault_of Positions fault) (map_level_refusal options mesh)
   map-failed fault is =
-      found-of-cause (positions_of mesh) options mesh fault.level fault.cause refl
-      (subst (λ t. IsSparseFault Sharpnesses (base_level mesh) t options.depth fault) named
-      (subst (λ b. IsSparseFault Sharpnesses b test options.depth fault) accepted.level_is is))
+      let here : IsSparseFault Sharpnesses (base_level mesh) (test_of options.select) options.depth fault =
+      subst (λ t. IsSparseFault Sharpnesses (base_level mesh) t options.depth fault) named
+      (subst (λ b. IsSparseFault Sharpnesses b test options.depth fault) accepted.level_is is) in
+      found-of-cause Sharpnesses (positions_of mesh) (predicate_by options.select options.depth mesh) Positions options.depth fault.level fault.cause
+      (here (positions_of mesh) refl).is
 
   pub map-found : (found : LevelMap) → IsMapOf level.level (predicate_to test level.level options.depth) options.depth found →
       HasNoSparseFault level.level test options.depth → IsLevelMap options mesh found

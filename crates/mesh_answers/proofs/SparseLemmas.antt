@@ -8,8 +8,9 @@ use Rattle.subdiv_model.specs.ObjMesh.{ObjMesh}
 use Rattle.subdiv_model.specs.Mask.{CatmullClark}
 use Rattle.subdiv_model.specs.Feature.{FaceFacts}
 use Rattle.subdiv_model.specs.Fault.{Track, Positions}
-use Rattle.subdiv_model.specs.Channel.{Channel}
+use Rattle.subdiv_model.specs.Channel.{Channel, Asked, Tables}
 use Rattle.subdiv_model.specs.Sparse.{FacePredicate}
+use Rattle.subdiv_model.specs.SparseFaults.{sparse_faults}
 use Rattle.subdiv_model.specs.SparseText.{written_points}
 use Rattle.subdiv_model.specs.SparseTexture.{points_part}
 use Rattle.far_model.specs.Command.{SparseOptions}
@@ -23,15 +24,14 @@ use Rattle.ratio128.specs.declared.point.Point3.{Point3}
 use Rattle.channel_refine.specs.Refined.{AreControls}
 use Rattle.channel_refine.specs.Evaluated.{control_rows}
 use Rattle.channel_refine.proofs.ValueLemmas.{dens-of-rows}
-use Rattle.sparse_channel.specs.Refined.{AreSparseLevels, AreSparseSteps, AreSparseTo, IsSparseCause, IsSparseFaultTo, IsSparseLevel, SparseRows}
+use Rattle.sparse_walk.specs.Faults.{IsCauseAt}
+use Rattle.sparse_channel.specs.Refined.{AreSparseLevels, AreSparseSteps, AreSparseTo, IsSparseFaultTo, IsSparseLevel, SparseRows}
 use Rattle.sparse_channel.specs.View.{sparse_rows}
 use Rattle.sparse_faces.specs.declared.values.SparseValues.{SparseValues}
 use Rattle.far_fault.specs.View.{fault_of}
 use Rattle.far_fault.specs.Walk.{fault_at, walk_fault_of}
 use Rattle.far_fault.specs.declared.fault.FarFault.{FarFault}
 use Rattle.far_text.specs.Points.{CanBeWritten}
-use Rattle.subdiv_model.specs.SparseFaults.{sparse_faults}
-use Rattle.subdiv_model.specs.Channel.{Tables}
 use Rattle.mesh_answers.specs.Refusals.{IsFound}
 use Rattle.mesh_answers.specs.SparseLevels.{ArePointsLevels, ArePointsLevelsFound, IsPointsLevel, IsWithinLimits, sparse_position_faults, sparse_position_refusal, written_denominators}
 use Rattle.mesh_answers.specs.StepCounts.{sparse_position_steps}
@@ -79,12 +79,12 @@ abbrev pub no_rows : SparseRows
 no_rows = record { written = record { point_count = 0; faces = [] }; rows = [] }
 
 -- the first fault of sparse levels, by its cause
-pub found-of-cause : (channel : Channel) (predicate : FacePredicate) (track : Track) (depth k : ℕ) (cause : Cause) → IsSparseCause channel predicate depth k cause →
-    IsFound (fault_at track k cause) (first_of (sparse_faults Tables channel predicate track depth))
-found-of-cause channel predicate track depth k (TooManyFaces count) is = is track
-found-of-cause channel predicate track depth k (Overflow kind) is = is track
-found-of-cause channel predicate track depth k TooManyEntries is = is track
-found-of-cause channel predicate track depth k Memory is = tt
+pub found-of-cause : (asked : Asked) (channel : Channel) (predicate : FacePredicate) (track : Track) (depth k : ℕ) (cause : Cause) → IsCauseAt asked channel predicate depth k cause →
+    IsFound (fault_at track k cause) (first_of (sparse_faults asked channel predicate track depth))
+found-of-cause asked channel predicate track depth k (TooManyFaces count) is = is track
+found-of-cause asked channel predicate track depth k (Overflow kind) is = is track
+found-of-cause asked channel predicate track depth k TooManyEntries is = is track
+found-of-cause asked channel predicate track depth k Memory is = tt
 
 -- The result of the walk over the sparse levels of a mesh's positions.
 module _ (options : SparseOptions) (mesh : ObjMesh) (points : List Point3) (said : map reader.point_of points ≡ mesh.points)
@@ -102,8 +102,8 @@ module _ (options : SparseOptions) (mesh : ObjMesh) (points : List Point3) (said
 
   pub sparse-failed : (fault : WalkFault) → IsSparseFaultTo test base options.depth fault → IsFound (walk_fault_of Positions fault) (sparse_position_refusal options mesh)
   sparse-failed fault is =
-      found-of-cause (positions_of mesh) (predicate_for options mesh) Positions options.depth fault.level fault.cause
-      (subst (λ t. IsSparseFaultTo t (positions_of mesh) options.depth fault) named (subst (λ b. IsSparseFaultTo test b options.depth fault) same is))
+      found-of-cause Tables (positions_of mesh) (predicate_for options mesh) Positions options.depth fault.level fault.cause
+      (subst (λ t. IsSparseFaultTo t (positions_of mesh) options.depth fault) named (subst (λ b. IsSparseFaultTo test b options.depth fault) same is)).is
 
   -- the levels are those of the definitions
   pub sparse-found : IsWithinLimits mesh → 0 < mesh.common → (levels : List (SparseValues Point3)) →

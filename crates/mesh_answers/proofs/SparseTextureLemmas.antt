@@ -9,7 +9,7 @@ use Rattle.subdiv_model.specs.Value.{Value, IsSameValue, whole_value}
 use Rattle.subdiv_model.specs.ObjMesh.{ObjMesh}
 use Rattle.subdiv_model.specs.Base.{base_level}
 use Rattle.subdiv_model.specs.Cut.{channel_values, cut_level}
-use Rattle.subdiv_model.specs.Channel.{Channel}
+use Rattle.subdiv_model.specs.Channel.{Channel, Tables}
 use Rattle.subdiv_model.specs.Fault.{Texture}
 use Rattle.subdiv_model.specs.Refined.{over_common, point_value}
 use Rattle.subdiv_model.specs.Sparse.{FacePredicate}
@@ -137,8 +137,8 @@ module _ (options : SparseOptions) (mesh : ObjMesh) (mode : Uv) (asked : sparse_
   pub texture-failed : (fault : WalkFault) → IsSparseFault base numbers-of options.depth fault → IsFound (walk_fault_of Texture fault) (sparse_texture_refusal options mesh)
   texture-failed fault is =
       let found : IsFound (walk_fault_of Texture fault) (first_of (sparse_texture_faults options mesh (Some mode))) =
-      found-of-cause (texture_of mesh mode) (texture_predicate options mesh) Texture options.depth fault.level fault.cause
-      (subst (λ m. IsSparseFault (texture_of mesh mode) m options.depth fault) named (subst (λ b. IsSparseFault b numbers-of options.depth fault) same is)) in
+      found-of-cause Tables (texture_of mesh mode) (texture_predicate options mesh) Texture options.depth fault.level fault.cause
+      (subst (λ m. IsSparseFault (texture_of mesh mode) m options.depth fault) named (subst (λ b. IsSparseFault b numbers-of options.depth fault) same is)).is in
       subst (λ uv. IsFound (walk_fault_of Texture fault) (first_of (sparse_texture_faults options mesh uv))) (sym asked) found
 
   -- the levels are those of the definitions

@@ -18,9 +18,9 @@ use Rattle.level_walk.specs.declared.fault.Cause.{Cause}
 use Rattle.level_walk.specs.declared.fault.Cause.TheVariants as cause
 use Rattle.level_walk.specs.declared.fault.OverflowKind.TheVariants as kind
 use Rattle.uniform_walk.proofs.FaultLemmas.{flat-none, first-from-0}
+use Rattle.sparse_walk.specs.Faults.{HasNoFaultTo, IsCauseAt}
 use Rattle.channel_refine.specs.Step.{IsCarryCause}
 use Rattle.channel_refine.proofs.FaultLemmas.{HasNoFault, IsFirstHeld, none-held, first-held}
-use Rattle.sparse_channel.specs.Refined.{IsSparseCause}
 
 -- the level has this number of present faces, which is too many
 abbrev pub has_many_faces : Channel → FacePredicate → ℕ → Bool
@@ -48,8 +48,8 @@ module _ (channel : Channel) (predicate : FacePredicate) where
       none-held (tests track k) (is.faces, (is.numbers.chaikin, (is.numbers.transition, (is.numbers.denominator, (is.numbers.entries, (is.numbers.value, tt))))))
 
   -- no level has a fault
-  pub no-faults : (track : Track) (depth : ℕ) → ((k : ℕ) → k < depth → HasNone channel predicate k) → sparse_faults Tables channel predicate track depth ≡ []
-  no-faults track depth none = flat-none (sparse_level_faults Tables channel predicate track) 0 depth (λ k h. none-of-level track k (none k (omega (arith, h))))
+  pub no-faults : (depth : ℕ) → ((k : ℕ) → k < depth → HasNone channel predicate k) → HasNoFaultTo Tables channel predicate depth
+  no-faults depth none = λ track. flat-none (sparse_level_faults Tables channel predicate track) 0 depth (λ k h. none-of-level track k (none k (omega (arith, h))))
 
   -- the next level has a fault, and those before it have none
   module _ (k depth : ℕ) (within : k < depth) (before : (j : ℕ) → j < k → HasNone channel predicate j) where
@@ -63,14 +63,14 @@ module _ (channel : Channel) (predicate : FacePredicate) where
     named = omega arith
 
     -- too many faces are present, or halves overflow
-    pub faces-first : (count : ℕ) → count ≡ present_faces channel.base predicate (suc k) → face_limit < count → IsSparseCause channel predicate depth (k + 1) (cause.TooManyFaces count)
+    pub faces-first : (count : ℕ) → count ≡ present_faces channel.base predicate (suc k) → face_limit < count → IsCauseAt Tables channel predicate depth (k + 1) (cause.TooManyFaces count)
     faces-first count is many = λ track.
         first-at track 0 (lt-ltb face_limit (present_faces channel.base predicate (suc k)) (subst (λ n. face_limit < n) is many))
         ∙ ap (λ n. Some (model.TooLarge (model.LevelFaces (suc k) n))) (sym is)
         ∙ ap (λ m. Some (model.TooLarge (model.LevelFaces m count))) named
 
     module _ (faces : has_many_faces channel predicate k ≡ false) where
-      pub chaikin-first : has_chaikin_overflow (sparse_levels channel predicate) k ≡ true → IsSparseCause channel predicate depth (k + 1) (cause.Overflow kind.Chaikin)
+      pub chaikin-first : has_chaikin_overflow (sparse_levels channel predicate) k ≡ true → IsCauseAt Tables channel predicate depth (k + 1) (cause.Overflow kind.Chaikin)
       chaikin-first over = λ track. first-at track 1 (faces, over) ∙ ap (λ m. Some (Overflow track m ChaikinOverflow)) named
 
       -- numbers cannot be carried to the level, given its common denominators and its number of entries
@@ -84,7 +84,7 @@ module _ (channel : Channel) (predicate : FacePredicate) where
         entries-fine : entries ≤ entry_bound → has_many_entries (sparse_levels channel predicate) k ≡ false
         entries-fine h = ap (nat_lt entry_bound) (sym many) ∙ le-ltb entry_bound entries h
 
-        pub carried-first : (why : Cause) → IsCarryCause (max channel.greatest channel.common) level scheme origins dens entries why → IsSparseCause channel predicate depth (k + 1) why
+        pub carried-first : (why : Cause) → IsCarryCause (max channel.greatest channel.common) level scheme origins dens entries why → IsCauseAt Tables channel predicate depth (k + 1) why
         carried-first (cause.Overflow kind.Transition) is = λ track.
             first-at track 2 (faces, (chaikin, some is.0 is.1)) ∙ ap (λ m. Some (Overflow track m TransitionOverflow)) named
         carried-first (cause.Overflow kind.Denominator) is = λ track.

@@ -4,7 +4,7 @@ use Rattle.std.specs.List.{list_any, sum_by}
 use Rattle.std.proofs.lemmas.Bool.{le-ltb}
 use Rattle.subdiv_model.specs.Polygons.{is_over}
 use Rattle.subdiv_model.specs.Feature.{FaceFacts}
-use Rattle.subdiv_model.specs.Channel.{Channel, number_bound, entry_bound, has_chaikin_overflow, has_transition_overflow}
+use Rattle.subdiv_model.specs.Channel.{Channel, Tables, number_bound, entry_bound, has_chaikin_overflow, has_transition_overflow}
 use Rattle.subdiv_model.specs.Sparse.{FacePredicate}
 use Rattle.subdiv_model.specs.SparseFaults.{present_denominators, present_entries, sparse_levels}
 use Rattle.sparse_laws.specs.SparseLevels.{SparseLevel, IsSparse}
@@ -19,11 +19,11 @@ use Rattle.stencil_apply.specs.Table.{Table, entries_of}
 use Rattle.stencil_factory.specs.Rows.{dens_of}
 use Rattle.stencil_factory.specs.Composed.{entries_from}
 use Rattle.level_walk.specs.declared.fault.Cause.{Cause}
+use Rattle.sparse_walk.specs.Faults.{IsCauseAt}
 use Rattle.channel_refine.specs.Step.{IsCarried, IsTableCause}
 use Rattle.channel_refine.proofs.IdentityLemmas.{entries-by-support}
 use Rattle.channel_refine.proofs.TableLemmas.{dens-short}
 use Rattle.channel_refine.proofs.ValueLemmas.{none-passes}
-use Rattle.sparse_channel.specs.Refined.{IsSparseCause}
 use Rattle.sparse_channel.proofs.OriginLemmas.{origin_in, on-origin, origin-on}
 use Rattle.sparse_channel.proofs.TableLemmas.{IsUniformTable, dens-next, entries-next, entries-present, uniform-next}
 use Rattle.sparse_channel.proofs.FaultLemmas.{HasNone, has_many_faces, carried-first}
@@ -86,7 +86,7 @@ module _ (channel : Channel) (predicate : FacePredicate) (sparse : SparseLevel) 
 
       -- else the fault is the first of all, if the levels before have none
       pub next-fault : (depth : ℕ) → sparse.depth < depth → ((j : ℕ) → j < sparse.depth → HasNone channel predicate j) → (why : Cause)
-          → IsTableCause (max channel.greatest channel.common) sparse.level channel.scheme origins table why → IsSparseCause channel predicate depth (sparse.depth + 1) why
+          → IsTableCause (max channel.greatest channel.common) sparse.level channel.scheme origins table why → IsCauseAt Tables channel predicate depth (sparse.depth + 1) why
       next-fault depth within before why fails =
           carried-first channel predicate sparse.depth depth within before faces chaikin sparse.level channel.scheme origins transition-fine transition-some
           (dens_from sparse.level channel.scheme (dens_of table) origins) (dens-next kept_at by_test channel.scheme table uniform origins from)

@@ -4,7 +4,7 @@ use Rattle.std.specs.List.{sum_by, range_with_len}
 use Rattle.std.proofs.lemmas.Bool.{le-ltb}
 use Rattle.subdiv_model.specs.Feature.{FaceFacts}
 use Rattle.subdiv_model.specs.Mask.{Scheme}
-use Rattle.subdiv_model.specs.Channel.{Channel, number_bound}
+use Rattle.subdiv_model.specs.Channel.{Channel, Tables, number_bound}
 use Rattle.subdiv_model.specs.Limits.{face_limit}
 use Rattle.subdiv_model.specs.Sparse.{FacePredicate, predicate_to}
 use Rattle.subdiv_model.specs.SparseFaults.{present_faces}
@@ -24,10 +24,11 @@ use Rattle.sparse_level.specs.View.{SparseTopology, SparseChild, level_of}
 use Rattle.sparse_refiner.specs.Refined.{IsRefined, SparseOf, places_for}
 use Rattle.sparse_walk.specs.View.{Walked}
 use Rattle.sparse_walk.specs.Step.{IsMade, IsRefused}
+use Rattle.sparse_walk.specs.Faults.{IsCauseAt, IsLevelFault}
 use Rattle.sparse_walk.specs.Kept.{KeptSoFar, kept_so_far, Keeps, kept_to}
 use Rattle.sparse_walk.specs.declared.kept.KeptLevel.{KeptLevel}
 use Rattle.sparse_walk.proofs.StepLemmas.{agrees-to}
-use Rattle.sparse_walk.proofs.FaultLemmas.{HasCause, IsFine, fine-here, cause-here}
+use Rattle.sparse_walk.proofs.FaultLemmas.{HasCause, IsFine, fine-here, cause-here, fault-next, memory-next}
 use Rattle.sparse_walk.proofs.ReachedLemmas as levels
 use Rattle.sparse_walk.proofs.ReachedLemmas.{topology_of}
 use Rattle.sparse_walk.proofs.KeptLemmas as keeping
@@ -35,7 +36,7 @@ use Rattle.sparse_walk.proofs.SeriesLemmas.{sum-more, sum-within}
 use Rattle.stencil_apply.specs.Table.{Table, IsTable, greatest_of}
 use Rattle.channel_refine.specs.Step.{IsCarried, IsTableCause}
 use Rattle.channel_refine.proofs.ChannelLemmas.{none-more}
-use Rattle.sparse_channel.specs.Refined.{IsSparseCause, IsSparseFaultTo, present_to}
+use Rattle.sparse_channel.specs.Refined.{IsSparseFaultTo, present_to}
 use Rattle.sparse_channel.specs.Composed.{AreComposedTo, AreComposeSteps}
 use Rattle.sparse_channel.proofs.OriginLemmas.{origin_in}
 use Rattle.sparse_channel.proofs.TableLemmas.{IsUniformTable}
@@ -47,16 +48,16 @@ plus-one : (k : ℕ) → k + 1 ≡ suc k
 plus-one k = omega arith
 
 -- The next level is not made: too many faces are present, or halves overflow.
-refused-first : (channel : Channel) (predicate : FacePredicate) (k depth : ℕ) → k < depth → ((j : ℕ) → j < k → HasNone channel predicate j) → (why : Cause) → HasCause channel.base predicate k why
-    → IsSparseCause channel predicate depth (k + 1) why
-refused-first channel predicate k depth within before (cause.TooManyFaces count) is = faces-first channel predicate k depth within before count is.0 is.1
-refused-first channel predicate k depth within before (cause.Overflow kind.Chaikin) is =
+refused-cause : (channel : Channel) (predicate : FacePredicate) (k depth : ℕ) → k < depth → ((j : ℕ) → j < k → HasNone channel predicate j) → (why : Cause) → HasCause channel.base predicate k why
+    → IsCauseAt Tables channel predicate depth (k + 1) why
+refused-cause channel predicate k depth within before (cause.TooManyFaces count) is = faces-first channel predicate k depth within before count is.0 is.1
+refused-cause channel predicate k depth within before (cause.Overflow kind.Chaikin) is =
     chaikin-first channel predicate k depth within before (le-ltb face_limit (present_faces channel.base predicate (suc k)) is.0) is.1
-refused-first channel predicate k depth within before (cause.Overflow kind.Transition) is = absurd is
-refused-first channel predicate k depth within before (cause.Overflow kind.Denominator) is = absurd is
-refused-first channel predicate k depth within before (cause.Overflow kind.Value) is = absurd is
-refused-first channel predicate k depth within before cause.TooManyEntries is = absurd is
-refused-first channel predicate k depth within before cause.Memory is = tt
+refused-cause channel predicate k depth within before (cause.Overflow kind.Transition) is = absurd is
+refused-cause channel predicate k depth within before (cause.Overflow kind.Denominator) is = absurd is
+refused-cause channel predicate k depth within before (cause.Overflow kind.Value) is = absurd is
+refused-cause channel predicate k depth within before cause.TooManyEntries is = absurd is
+refused-cause channel predicate k depth within before cause.Memory is = tt
 
 module _ (test : FaceFacts → Bool) (channel : Channel) (depth : ℕ) where
   abbrev predicate : FacePredicate
@@ -120,9 +121,9 @@ module _ (test : FaceFacts → Bool) (channel : Channel) (depth : ℕ) where
             most = omega (arith, held.most, most, e, levels.next-counted test channel.base depth k t is within, sum-more (present_faces channel.base predicate) k);
           }
 
-          fault-next : (why : Cause) → IsTableCause (max channel.greatest channel.common) t.topology.level channel.scheme child.origins table why → IsSparseCause channel predicate depth (k + 1) why
-          fault-next why fails =
-              subst (λ n. IsSparseCause channel predicate depth (n + 1) why) is.deep
+          carried-cause : (why : Cause) → IsTableCause (max channel.greatest channel.common) t.topology.level channel.scheme child.origins table why → IsCauseAt Tables channel predicate depth (k + 1) why
+          carried-cause why fails =
+              subst (λ n. IsCauseAt Tables channel predicate depth (n + 1) why) is.deep
               (next-fault channel predicate (level_of t) is.stands.over sparse-within test agrees table (table-here table held.table_is) child.origins origins-are
               (few-step made.step step-of) (fine-step made.step step-of).fine depth (omega (arith, within, is.deep)) (λ j h. held.none j (omega (arith, h, is.deep))) why fails)
 
@@ -171,7 +172,7 @@ module _ (test : FaceFacts → Bool) (channel : Channel) (depth : ℕ) where
           let there = walked-to depth end (omega arith) walked in
           let all = keeping.all-kept Holds test channel.base depth Follow follows end kept there is in
           record {
-            fine = λ track. no-faults channel predicate track depth there.holds.none;
+            fine = no-faults channel predicate depth there.holds.none;
             count = all.count_is;
             each = λ k d h.
                 let one = all.each k d (omega (arith, h)) in
@@ -189,27 +190,29 @@ module _ (test : FaceFacts → Bool) (channel : Channel) (depth : ℕ) where
           omega (arith, is.holds.most, h, count, sum-more (present_faces channel.base predicate) k, sum-within (present_faces channel.base predicate) (k + 1) depth (omega (arith, within)))
 
       abbrev Stopped : ℕ → Cause → ℕ → Type 0
-      Stopped number why new = IsSparseCause channel predicate depth number why × AreComposeSteps test channel depth start.steps new
+      Stopped number why new = IsLevelFault Tables channel predicate depth number why × AreComposeSteps test channel depth start.steps new
 
       stopped-at : (k : ℕ) (last : Place Walked Table (KeptSoFar Table)) (new : ℕ) → k < depth → IsAt k last → (why : Cause)
           → IsCause topology_of (IsMade test) (IsRefused test) Follow Fail last.reached why last.steps new → Stopped (k + 1) why new
       stopped-at k last new within is why (inl refused) =
           let t = last.reached.level.sparse in (
-            refused-first channel predicate k depth within is.holds.none why (subst (λ n. HasCause channel.base predicate n why) is.reached.deep (cause-here test t (as_sparse k t is.reached within) why refused.is)),
+            fault-next Tables channel predicate k depth why within (no-faults channel predicate k is.holds.none)
+                (refused-cause channel predicate k depth within is.holds.none why (subst (λ n. HasCause channel.base predicate n why) is.reached.deep (cause-here test t (as_sparse k t is.reached within) why refused.is))),
             record { most = bound k new last within is refused.steps.most; later = omega (arith, is.holds.later, refused.steps.later) },
           )
       stopped-at k last new within is why (inr (inl left)) =
           let t = last.reached.level.sparse in
           let table = last.reached.carried in (
-            fault-next k t is.reached within last.reached.level refl left.child left.next last.steps left.level_steps left.made start.steps last.steps table is.holds why
-                (of-channel (λ m s. IsTableCause m t.topology.level s left.child.origins table why) left.fails.0),
+            fault-next Tables channel predicate k depth why within (no-faults channel predicate k is.holds.none)
+                (carried-cause k t is.reached within last.reached.level refl left.child left.next last.steps left.level_steps left.made start.steps last.steps table is.holds why
+                (of-channel (λ m s. IsTableCause m t.topology.level s left.child.origins table why) left.fails.0)),
             record {
               most = bound k new last within is (omega (arith, left.made.steps.most, left.fails.1));
               later = omega (arith, is.holds.later, left.made.steps.later, left.fails.1);
             },
           )
       stopped-at k last new within is why (inr (inr without)) = (
-        subst (IsSparseCause channel predicate depth (k + 1)) (sym without.memory) tt,
+        memory-next Tables channel predicate k depth why within (no-faults channel predicate k is.holds.none) without.memory,
         record {
           most = bound k new last within is (omega (arith, without.made.made.steps.most, without.made.followed.1));
           later = omega (arith, is.holds.later, without.made.made.steps.later, without.made.followed.1);

@@ -1,24 +1,19 @@
 -- The sparse levels of a channel up to a depth, with the values of the written points.
 -- Source: this profile.
-use Rattle.std.specs.Prelude.{ℕ, ◌≡◌, ◌+◌, ◌*◌, ◌<◌, ◌≤◌, pos, Bool, List, [], length, get_or, max, Some}
+use Rattle.std.specs.Prelude.{ℕ, ◌≡◌, ◌+◌, ◌*◌, ◌<◌, ◌≤◌, pos, Bool, List, [], length, get_or, max}
 use Rattle.std.specs.List.{All, sum_by, range_with_len}
-use Rattle.subdiv_model.specs.Lists.{first_of}
 use Rattle.subdiv_model.specs.Value.{whole_value}
 use Rattle.subdiv_model.specs.Level.{Level}
 use Rattle.subdiv_model.specs.Refined.{refined_values, control_values}
 use Rattle.subdiv_model.specs.Feature.{FaceFacts}
-use Rattle.subdiv_model.specs.Fault as model
-use Rattle.subdiv_model.specs.Fault.{Fault, Track}
 use Rattle.subdiv_model.specs.Channel.{Channel, Tables, number_bound, denominators_after}
 use Rattle.subdiv_model.specs.Sparse.{FacePredicate, predicate_to}
-use Rattle.subdiv_model.specs.SparseFaults.{present_entries, present_faces, sparse_faults}
+use Rattle.subdiv_model.specs.SparseFaults.{present_entries, present_faces}
 use Rattle.subdiv_model.specs.SparseText.{WrittenLevel, written_level, written_points}
+use Rattle.sparse_walk.specs.Faults.{HasNoFaultTo, IsLevelFault}
 use Rattle.sparse_values.specs.Uniform.{items_at}
 use Rattle.primvar_refine.specs.Rows.{Row, row_at, dens_of, StandFor, AreWithin}
 use Rattle.channel_refine.specs.Refined.{column_of}
-use Rattle.level_walk.specs.View.{kind_of}
-use Rattle.level_walk.specs.declared.fault.Cause.{Cause}
-use Rattle.level_walk.specs.declared.fault.Cause.TheVariants.{TooManyFaces, Overflow, TooManyEntries, Memory}
 use Rattle.level_walk.specs.declared.fault.WalkFault.{WalkFault}
 
 -- the written part of a level, and the values of its written points as rows
@@ -44,24 +39,13 @@ pub record IsSparseLevel (channel : Channel) (predicate : FacePredicate) (contro
 
 -- no level up to the depth has a fault, and the list has each level from 0 on
 pub record AreSparseLevels (channel : Channel) (predicate : FacePredicate) (controls : List Row) (depth : ℕ) (levels : List SparseRows) : Type 0 where
-  pub fine : (track : Track) → sparse_faults Tables channel predicate track depth ≡ []
+  pub fine : HasNoFaultTo Tables channel predicate depth
   pub count : length levels ≡ depth + 1
   pub each : (k : ℕ) → k ≤ depth → IsSparseLevel channel predicate controls k (get_or levels k (record { written = record { point_count = 0; faces = [] }; rows = [] }))
 
--- the first fault of the sparse levels up to a depth, for any track
-abbrev pub IsFirstSparse : Channel → FacePredicate → ℕ → (Track → Fault) → Type 0
-IsFirstSparse channel predicate depth fault = (track : Track) → first_of (sparse_faults Tables channel predicate track depth) ≡ Some (fault track)
-
--- the level with this number is the first that is not reached, and the cause fits; memory may run out at any level
-abbrev pub IsSparseCause : Channel → FacePredicate → ℕ → ℕ → Cause → Type 0
-IsSparseCause channel predicate depth level (TooManyFaces count) = IsFirstSparse channel predicate depth (λ track. model.TooLarge (model.LevelFaces level count))
-IsSparseCause channel predicate depth level (Overflow kind) = IsFirstSparse channel predicate depth (λ track. model.Overflow track level (kind_of kind))
-IsSparseCause channel predicate depth level TooManyEntries = IsFirstSparse channel predicate depth (λ track. model.TooLarge (model.Entries level))
-IsSparseCause channel predicate depth level Memory = Unit {0}
-
 -- the fault is the first of the sparse levels up to a depth
 abbrev pub IsSparseFault : Channel → FacePredicate → ℕ → WalkFault → Type 0
-IsSparseFault channel predicate depth fault = IsSparseCause channel predicate depth fault.level fault.cause
+IsSparseFault channel predicate depth fault = IsLevelFault Tables channel predicate depth fault.level fault.cause
 
 -- the sparse levels for the predicate of a test
 abbrev pub AreSparseTo : (FaceFacts → Bool) → Channel → List Row → ℕ → List SparseRows → Type 0

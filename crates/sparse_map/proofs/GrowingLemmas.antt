@@ -24,7 +24,6 @@ use Rattle.sparse_walk.specs.Base.{IsSparseBase}
 use Rattle.sparse_walk.specs.Step.{IsMade, IsRefused}
 use Rattle.sparse_walk.specs.Levels.{present_to, AreSparseSteps}
 use Rattle.sparse_walk.specs.Faults.{IsFaultAt, HasNoSparseFault}
-use Rattle.sparse_walk.proofs.FaultLemmas.{AreFine, sparse-none}
 use Rattle.sparse_walk.proofs.MaskLemmas.{kept, by}
 use Rattle.sparse_walk.proofs.StepLemmas.{agrees-to}
 use Rattle.sparse_walk.proofs.StartLemmas.{reached-start}
@@ -119,8 +118,7 @@ module _ {C : Type 0} (test : FaceFacts → Bool) (base : Level) (depth : ℕ) (
         subst (IsMapOf base predicate depth) (sym (with last.rises)) last.is
 
     pub no-fault : (end : Place Walked C LevelMap) → IsWalked topology_of (IsMade test) Follow Takes start depth end → HasNoSparseFault base test depth
-    no-fault end walked = λ channel same track.
-        sparse-none channel predicate track depth (subst (λ b. AreFine b predicate depth) (sym same) (walked-to depth end (omega arith) walked).reached.fine)
+    no-fault end walked = levels.none-to test base depth depth end.reached.level.sparse (walked-to depth end (omega arith) walked).reached
 
     pub all-steps : (end : Place Walked C LevelMap) → IsWalked topology_of (IsMade test) Follow Takes start depth end → AreSparseSteps base test depth start.steps end.steps
     all-steps end walked = let last = walked-to depth end (omega arith) walked in record { most = last.most; later = last.later }
@@ -142,7 +140,7 @@ module _ {C : Type 0} (test : FaceFacts → Bool) (base : Level) (depth : ℕ) (
     )
     stopped-at k last new within is cause (inr (inl left)) = absurd left.fails
     stopped-at k last new within is cause (inr (inr without)) = (
-      subst (IsFaultAt Sharpnesses base predicate depth (k + 1)) (sym without.memory) tt,
+      levels.memory-here test base depth k last.reached.level.sparse is.reached within cause without.memory,
       record {
         most = bound k new last within is (omega (arith, without.made.made.steps.most, without.made.followed));
         later = omega (arith, is.later, without.made.made.steps.later, without.made.followed);

@@ -1,5 +1,5 @@
 -- The first fault of sparse levels is that of the first level that has one.
-use Rattle.std.proofs.Common.{◌≡◌, ℕ, suc, ◌+◌, ◌^◌, ◌<◌, ◌≤◌, Bool, true, false, nat_lt, List, [], ◌++◌, length, Some, arith, refl, ap, sym, ◌∙◌, subst}
+use Rattle.std.proofs.Common.{◌≡◌, ℕ, suc, ◌+◌, ◌-◌, ◌^◌, ◌<◌, ◌≤◌, Bool, true, false, nat_lt, List, [], ◌++◌, length, Some, arith, refl, ap, sym, ◌∙◌, subst}
 use Rattle.std.specs.List.{list_any}
 use Rattle.std.proofs.lemmas.Bool.{lt-ltb, le-ltb}
 use Rattle.subdiv_model.specs.Lists.{first_of}
@@ -10,7 +10,7 @@ use Rattle.subdiv_model.specs.Sparse.{FacePredicate}
 use Rattle.subdiv_model.specs.Limits.{face_limit}
 use Rattle.subdiv_model.specs.SparseFaults.{points_with_child, present_faces, sparse_levels, sparse_level_faults, sparse_faults}
 use Rattle.subdiv_model.specs.Fault.{Fault, Track, TooLarge, LevelFaces, Overflow, ChaikinOverflow}
-use Rattle.subdiv_model.specs.Channel.{Channel, Sharpnesses, fault_where, chaikin_overflows_at, asked_faults, level_faults}
+use Rattle.subdiv_model.specs.Channel.{Channel, Asked, Sharpnesses, fault_where, chaikin_overflows_at, asked_faults, level_faults}
 use Rattle.level_walk.specs.declared.fault.Cause.{Cause}
 use Rattle.level_walk.specs.declared.fault.Cause.TheVariants as cause
 use Rattle.level_walk.specs.declared.fault.OverflowKind.TheVariants as kind
@@ -19,7 +19,7 @@ use Rattle.sparse_laws.proofs.OverflowLemmas.{faces-counted, overflows-here, ove
 use Rattle.sparse_level.specs.View.{SparseTopology, SparseChild}
 use Rattle.sparse_refiner.specs.Refined.{IsRefined, SparseOf, places_for}
 use Rattle.sparse_walk.specs.Step.{IsSparseCause}
-use Rattle.sparse_walk.specs.Faults.{IsFaultAt}
+use Rattle.sparse_walk.specs.Faults.{HasNoFaultTo, IsCauseAt, IsLevelFault}
 use Rattle.sparse_walk.proofs.MaskLemmas.{kept, by}
 
 -- halves overflow at a point of the level that has a present child
@@ -93,25 +93,40 @@ module _ (channel : Channel) (predicate : FacePredicate) (track : Track) where
       (the-second (nat_lt face_limit present) (has_overflow channel.base predicate k) (TooLarge (LevelFaces (suc k) present)) (Overflow track (suc k) ChaikinOverflow)
       (asked_faults Sharpnesses (sparse_levels channel predicate) track k) (le-ltb face_limit present is.0) is.1)
 
-module _ (base : Level) (predicate : FacePredicate) (k depth : ℕ) (within : k < depth) (are : AreFine base predicate k) where
+-- the levels before have no fault, and this is the cause that the next one is not reached
+pub fault-next : (asked : Asked) (channel : Channel) (predicate : FacePredicate) (k depth : ℕ) (why : Cause) → k < depth → HasNoFaultTo asked channel predicate k
+    → IsCauseAt asked channel predicate depth (k + 1) why → IsLevelFault asked channel predicate depth (k + 1) why
+fault-next asked channel predicate k depth why within before is = record {
+  within = omega (arith, within);
+  before = subst (HasNoFaultTo asked channel predicate) (one-less k) before;
+  is = is;
+}
+  where
+    one-less : (k : ℕ) → k ≡ k + 1 - 1
+    one-less k = omega arith
+
+-- memory runs out on the way to the next level
+pub memory-next : (asked : Asked) (channel : Channel) (predicate : FacePredicate) (k depth : ℕ) (why : Cause) → k < depth → HasNoFaultTo asked channel predicate k → why ≡ cause.Memory
+    → IsLevelFault asked channel predicate depth (k + 1) why
+memory-next asked channel predicate k depth why within before same =
+    subst (IsLevelFault asked channel predicate depth (k + 1)) (sym same) (fault-next asked channel predicate k depth cause.Memory within before tt)
+
+module _ (channel : Channel) (predicate : FacePredicate) (k depth : ℕ) (within : k < depth) (are : AreFine channel.base predicate k) where
   named : suc k ≡ k + 1
   named = omega arith
 
+  cause-next : (why : Cause) → HasCause channel.base predicate k why → IsCauseAt Sharpnesses channel predicate depth (k + 1) why
+  cause-next (cause.TooManyFaces count) is = λ track. large-first channel predicate track k depth count within are is ∙ ap (λ n. Some (TooLarge (LevelFaces n count))) named
+  cause-next (cause.Overflow kind.Chaikin) is = λ track. chaikin-first channel predicate track k depth within are is ∙ ap (λ n. Some (Overflow track n ChaikinOverflow)) named
+  cause-next (cause.Overflow kind.Transition) is = absurd is
+  cause-next (cause.Overflow kind.Denominator) is = absurd is
+  cause-next (cause.Overflow kind.Value) is = absurd is
+  cause-next cause.TooManyEntries is = absurd is
+  cause-next cause.Memory is = tt
+
   -- the next level is the first that is not reached
-  pub refused-first : (cause : Cause) → HasCause base predicate k cause → IsFaultAt Sharpnesses base predicate depth (k + 1) cause
-  refused-first (cause.TooManyFaces count) is = λ channel same track.
-      large-first channel predicate track k depth count within (subst (λ b. AreFine b predicate k) (sym same) are)
-      (subst (λ b. HasCause b predicate k (cause.TooManyFaces count)) (sym same) is)
-      ∙ ap (λ n. Some (TooLarge (LevelFaces n count))) named
-  refused-first (cause.Overflow kind.Chaikin) is = λ channel same track.
-      chaikin-first channel predicate track k depth within (subst (λ b. AreFine b predicate k) (sym same) are)
-      (subst (λ b. HasCause b predicate k (cause.Overflow kind.Chaikin)) (sym same) is)
-      ∙ ap (λ n. Some (Overflow track n ChaikinOverflow)) named
-  refused-first (cause.Overflow kind.Transition) is = absurd is
-  refused-first (cause.Overflow kind.Denominator) is = absurd is
-  refused-first (cause.Overflow kind.Value) is = absurd is
-  refused-first cause.TooManyEntries is = absurd is
-  refused-first cause.Memory is = tt
+  pub refused-first : (why : Cause) → HasCause channel.base predicate k why → IsLevelFault Sharpnesses channel predicate depth (k + 1) why
+  refused-first why is = fault-next Sharpnesses channel predicate k depth why within (λ track. sparse-none channel predicate track k are) (cause-next why is)
 
 -- The results of a step in the terms of the definitions.
 

@@ -10,10 +10,11 @@ use Rattle.subdiv_model.specs.Feature.{FaceFacts}
 use Rattle.subdiv_model.specs.Sparse.{FacePredicate, predicate_of, predicate_to}
 use Rattle.subdiv_model.specs.SparseFaults.{present_faces}
 use Rattle.subdiv_model.specs.SparseText.{written_level}
-use Rattle.subdiv_model.specs.Channel.{Sharpnesses}
+use Rattle.subdiv_model.specs.Channel.{Channel, Sharpnesses}
 use Rattle.level_topology.specs.Topology.{Topology}
 use Rattle.level_topology.specs.Child.{ChildTopology}
 use Rattle.level_walk.specs.declared.fault.Cause.{Cause}
+use Rattle.level_walk.specs.declared.fault.Cause.TheVariants.{Memory}
 use Rattle.sparse_laws.specs.Selected.{is_selected_in}
 use Rattle.sparse_laws.specs.Written.{written_here}
 use Rattle.sparse_laws.proofs.OverflowLemmas.{faces-counted}
@@ -23,10 +24,10 @@ use Rattle.sparse_level.specs.Places.{marked}
 use Rattle.sparse_refiner.specs.Refined.{IsRefined, SparseOf, places_for}
 use Rattle.sparse_walk.specs.View.{Walked}
 use Rattle.sparse_walk.specs.Step.{StandsFor, IsMade, IsSparseCause}
-use Rattle.sparse_walk.specs.Faults.{IsFaultAt}
+use Rattle.sparse_walk.specs.Faults.{HasNoFaultTo, IsFaultAt}
 use Rattle.sparse_walk.proofs.MaskLemmas.{kept, by}
 use Rattle.sparse_walk.proofs.StepLemmas.{agrees-to, sparse-by, stands-next}
-use Rattle.sparse_walk.proofs.FaultLemmas.{AreFine, HasCause, IsFine, refused-first, fine-here, cause-here}
+use Rattle.sparse_walk.proofs.FaultLemmas.{AreFine, HasCause, IsFine, sparse-none, memory-next, refused-first, fine-here, cause-here}
 
 plus-one : (k : ℕ) → k + 1 ≡ suc k
 plus-one k = omega arith
@@ -66,6 +67,10 @@ module _ (test : FaceFacts → Bool) (base : Level) (depth : ℕ) where
   pub reached-none : (t : SparseTopology) → t.depth ≡ 0 → StandsFor test base t → IsReached 0 t
   reached-none t deep stands = record { deep = deep; stands = stands; fine = λ k h. absurd (omega (arith, h)) }
 
+  -- the levels up to it have no fault
+  pub none-to : (k : ℕ) (t : SparseTopology) → IsReached k t → (channel : Channel) → channel.base ≡ base → HasNoFaultTo Sharpnesses channel predicate k
+  none-to k t is = λ channel same track. sparse-none channel predicate track k (subst (λ b. AreFine b predicate k) (sym same) is.fine)
+
   module _ (k : ℕ) (t : SparseTopology) (is : IsReached k t) (within : k < depth) where
     -- by the predicate to the depth the level is one of the definitions
     abbrev pub sparse-in : SparseOf test t
@@ -95,8 +100,13 @@ module _ (test : FaceFacts → Bool) (base : Level) (depth : ℕ) where
 
     -- if the step refuses the next level, its fault is the first of all
     pub fault-here : (cause : Cause) → IsSparseCause test t cause → IsFaultAt Sharpnesses base predicate depth (k + 1) cause
-    fault-here cause refused =
-        refused-first base predicate k depth within is.fine cause (subst (λ n. HasCause base predicate n cause) is.deep (cause-here test t sparse-in cause refused))
+    fault-here cause refused = λ channel same.
+        refused-first channel predicate k depth within (subst (λ b. AreFine b predicate k) (sym same) is.fine) cause
+        (subst (λ b. HasCause b predicate k cause) (sym same) (subst (λ n. HasCause base predicate n cause) is.deep (cause-here test t sparse-in cause refused)))
+
+    -- memory runs out on the way to the next level
+    pub memory-here : (cause : Cause) → cause ≡ Memory → IsFaultAt Sharpnesses base predicate depth (k + 1) cause
+    memory-here cause ran_out = λ channel same. memory-next Sharpnesses channel predicate k depth cause within (none-to k t is channel same) ran_out
 
   -- the written form of the last level, which has no selected face
   pub last-written : (t : SparseTopology) → IsReached depth t → written_here (level_of t) [] ≡ written_level base predicate depth

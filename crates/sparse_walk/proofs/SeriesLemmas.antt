@@ -24,7 +24,6 @@ use Rattle.sparse_walk.specs.Kept.{KeptSoFar, kept_so_far, Keeps, kept_to}
 use Rattle.sparse_walk.specs.Levels.{faces_of, written_to, present_to, AreSparseSteps}
 use Rattle.sparse_walk.specs.Faults.{IsFaultAt, HasNoSparseFault}
 use Rattle.sparse_walk.specs.declared.kept.KeptLevel.{KeptLevel}
-use Rattle.sparse_walk.proofs.FaultLemmas.{AreFine, sparse-none}
 use Rattle.sparse_walk.proofs.ReachedLemmas as levels
 use Rattle.sparse_walk.proofs.ReachedLemmas.{topology_of}
 use Rattle.sparse_walk.proofs.KeptLemmas as keeping
@@ -97,8 +96,7 @@ module _ {C : Type 0} (test : FaceFacts → Bool) (base : Level) (depth : ℕ) (
         faces ∙ keeping.all-written Holds test base depth kept (keeping.all-kept Holds test base depth Follow follows end kept (walked-to depth end (omega arith) walked) same)
 
     pub no-fault : (end : Place Walked C (KeptSoFar C)) → IsWalked topology_of (IsMade test) Follow Keeps start depth end → HasNoSparseFault base test depth
-    no-fault end walked = λ channel same track.
-        sparse-none channel predicate track depth (subst (λ b. AreFine b predicate depth) (sym same) (walked-to depth end (omega arith) walked).reached.fine)
+    no-fault end walked = levels.none-to test base depth depth end.reached.level.sparse (walked-to depth end (omega arith) walked).reached
 
     pub all-steps : (end : Place Walked C (KeptSoFar C)) → IsWalked topology_of (IsMade test) Follow Keeps start depth end → AreSparseSteps base test depth start.steps end.steps
     all-steps end walked = let holds = (walked-to depth end (omega arith) walked).holds in record { most = holds.1; later = holds.0 }
@@ -120,7 +118,7 @@ module _ {C : Type 0} (test : FaceFacts → Bool) (base : Level) (depth : ℕ) (
     )
     stopped-at k last new within is cause (inr (inl left)) = absurd left.fails
     stopped-at k last new within is cause (inr (inr without)) = (
-      subst (IsFaultAt Sharpnesses base predicate depth (k + 1)) (sym without.memory) tt,
+      levels.memory-here test base depth k last.reached.level.sparse is.reached within cause without.memory,
       record {
         most = bound k new last within is (omega (arith, without.made.made.steps.most, without.made.followed));
         later = omega (arith, is.holds.0, without.made.made.steps.later, without.made.followed);
