@@ -1,3 +1,5 @@
 mod FaceLemmas
+mod LimitLemmas
 mod QuarterLemmas
 mod StepLemmas
+mod ValueLemmas

@@ -1,26 +1,25 @@
 -- The quarter of the square as a step of a walk, and the values that it is walked with.
-use Rattle.std.proofs.Common.{◌≡◌, ℕ, ◌*◌, ◌<◌, ◌≤◌, inl, inr, Result, Ok, Err, IfOk, MatchResult, ℤ, unsigned_abs, true, false, ◌||◌, nat_eq, List, [], ◌∷◌, length, get_or, arith, refl, ap, sym, ◌∙◌, subst}
+use Rattle.std.proofs.Common.{◌≡◌, ℕ, ◌*◌, ◌<◌, ◌≤◌, inl, inr, Result, Ok, Err, IfOk, MatchResult, true, false, ◌||◌, nat_eq, List, [], ◌∷◌, length, get_or, arith, refl, ap, sym, ◌∙◌, subst}
 use Rattle.std.specs.List.{All}
 use Rattle.std.proofs.lemmas.Bool.Decides.{nat_tests}
 use Rattle.std.proofs.lemmas.List.{length-map}
 use Rattle.std.proofs.lemmas.Result.{IfOk-weaker}
-use Rattle.std.proofs.lemmas.List.Elements.{All-map, All-weaker}
 use Rattle.ratio128.specs.Numbers.{greatest_amount}
 use Rattle.ratio128.specs.declared.point.Point3.{Point3}
 use Rattle.ratio128.specs.declared.valued.Valued.{Valued}
 use Rattle.subdiv_model.specs.Sharpness.{Smooth, Infinite}
 use Rattle.subdiv_model.specs.Mask.{CatmullClark}
-use Rattle.subdiv_model.specs.Channel.{number_bound}
 use Rattle.level_topology.specs.Topology.{Topology}
 use Rattle.level_topology.specs.Child.{FromVertex, FromEdge, ChildTopology}
 use Rattle.mask_rules.specs.Masks.{is_at_least_one}
 use Rattle.primvar_refine.specs.View.{row_of, rows_of}
-use Rattle.primvar_refine.specs.Rows.{Row, row_at, AreGood}
+use Rattle.primvar_refine.specs.Rows.{Row}
 use Rattle.child_masks.specs.Masks.{has_origin, CanRefine}
 use Rattle.channel_refine.specs.Step.{AreValues}
 use Rattle.level_tests.specs.Squares.{square, quarter, square_rows, quarter_origins, quarter_child, IsSquareOrQuarter}
 use Rattle.level_tests.specs.Values.{IsNearPoint}
 use Rattle.level_tests.proofs.QuarterLemmas.{by-four, square-is, square-points, quarter-points}
+use Rattle.level_tests.proofs.ValueLemmas.{all-near, amount-below, good-rows}
 
 -- the one vertex with a child point
 vertex-is : (v : ℕ) → has_origin quarter_origins (FromVertex v) ≡ true → v ≡ 1
@@ -78,31 +77,11 @@ made-or (Ok child) Q q made = subst Q (sym made) q
 made-or (Err fault) Q q made = tt
 
 -- points over 1, of numbers up to 8, are values of the square
-all-near : (P : Row → Type 0) → ((p : Valued Point3) → IsNearPoint p → P (row_of (λ (q : Point3). q.x ∷ q.y ∷ q.z ∷ []) p))
-    → (points : List (Valued Point3)) → All IsNearPoint points → All P (rows_of (λ (q : Point3). q.x ∷ q.y ∷ q.z ∷ []) points)
-all-near P each points near =
-    All-map P (row_of (λ (q : Point3). q.x ∷ q.y ∷ q.z ∷ [])) points
-    (All-weaker IsNearPoint (λ p. P (row_of (λ (q : Point3). q.x ∷ q.y ∷ q.z ∷ []) p)) each points near)
-
-all-alike : (points : List (Valued Point3)) → All IsNearPoint points
-    → All (λ (row : Row). length row.numbers ≡ length (row_at (rows_of (λ (q : Point3). q.x ∷ q.y ∷ q.z ∷ []) points) 0).numbers) (rows_of (λ (q : Point3). q.x ∷ q.y ∷ q.z ∷ []) points)
-all-alike [] near = λ k d lt. absurd (omega (arith, lt))
-all-alike (p ∷ points) near = all-near (λ (row : Row). length row.numbers ≡ 3) (λ q h. refl) (p ∷ points) near
-
-amount-below : (x y z : ℤ) → unsigned_abs x ≤ 8 → unsigned_abs y ≤ 8 → unsigned_abs z ≤ 8 → greatest_amount (x ∷ y ∷ z ∷ []) ≤ 8
-amount-below x y z a b c = omega (arith, a, b, c)
-
 pub near-values : (points : List (Valued Point3)) → length points ≡ 4 → All IsNearPoint points
     → AreValues 8 square (rows_of (λ (q : Point3). q.x ∷ q.y ∷ q.z ∷ []) points)
 near-values points count near = record {
   each = length-map points (row_of (λ (q : Point3). q.x ∷ q.y ∷ q.z ∷ [])) ∙ count ∙ sym square-points;
-  good = record {
-    positive = all-near (λ (row : Row). 0 < row.den) (λ p h. omega (arith, h.one)) points near;
-    short = all-near (λ (row : Row). row.den ≤ number_bound) (λ p h. omega (arith, h.one)) points near;
-    kept = all-near (λ (row : Row). greatest_amount row.numbers ≤ number_bound)
-        (λ p h. let below = amount-below p.value.x p.value.y p.value.z h.x h.y h.z in omega (arith, below)) points near;
-    alike = all-alike points near;
-  };
+  good = good-rows points near;
   within = all-near (λ (row : Row). greatest_amount row.numbers ≤ row.den * 8)
       (λ p h. let below = amount-below p.value.x p.value.y p.value.z h.x h.y h.z in omega (arith, h.one, below)) points near;
 }

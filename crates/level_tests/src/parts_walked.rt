@@ -1,14 +1,13 @@
 // A step that makes only one quarter of the square, walked with values.
 
-ghost use Rattle.std.specs.Prelude.{◌≡◌, ◌<◌, [], ◌∷◌, true, length, IfOk};
-ghost use Rattle.std.specs.List.{All};
+ghost use Rattle.std.specs.Prelude.{◌≡◌, ◌<◌, [], ◌∷◌, length, IfOk};
 ghost use Rattle.primvar_refine.specs.View.{rows_of};
 ghost use Rattle.channel_refine.specs.Step.{AreValues};
 ghost use Rattle.level_tests.specs.Squares.{square, quarter_child};
-ghost use Rattle.level_tests.specs.Values.{IsNearPoint};
 
 use crate::expect::expect_same;
 use crate::levels::{join_to, make_square};
+use crate::near::{MOST, assert_near};
 use channel_refine::ByValues;
 use level_topology::{Child, Level};
 use level_walk::{Cause, Dropped, NextLevel, Reached, WalkFault, walk};
@@ -108,8 +107,6 @@ fn square_points() -> &'static [Valued<Point3>] {
     SQUARE_POINTS
 }
 
-const MOST: u128 = 8;
-
 // The points of the quarter: of vertex 1, which is on a crease, of the face, and of the edges before and after the vertex,
 // which are on the boundary.
 const QUARTER_POINTS: &[Valued<Point3>] = &[
@@ -157,24 +154,6 @@ fn walk_values<L: Ledger>(
     };
     let start = Reached { level, carried };
     carried_of(walk(alloc, &Quarter, &by, &mut Dropped, start, depth, steps))
-}
-
-// Returns whether a point has the denominator 1 and no number above the greatest.
-fn is_near(p: &Valued<Point3>) -> bool
-    ensures { result ≡ true → IsNearPoint p.now }
-{
-    p.den == 1
-        && p.value.x.unsigned_abs() <= MOST
-        && p.value.y.unsigned_abs() <= MOST
-        && p.value.z.unsigned_abs() <= MOST
-}
-
-// Asserts that each point has the denominator 1 and numbers up to 8.
-fn assert_near(rt: &impl Abort, points: &[Valued<Point3>])
-    ensures { All IsNearPoint points.now }
-{
-    let are_near = points.iter().all(|p| is_near(p));
-    assert!(rt; are_near);
 }
 
 // Returns the points of the square, as values that can be carried from it.

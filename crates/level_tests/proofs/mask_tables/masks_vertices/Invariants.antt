@@ -1,4 +1,4 @@
-use Rattle.mask_tests.proofs.mask_tables.masks_vertices.Given as goal
+use Rattle.level_tests.proofs.mask_tables.masks_vertices.Given as goal
 
 -- the ledger of this one counter
 abbrev pub ghosts-expect_masks : goal.ghosts-expect_masks

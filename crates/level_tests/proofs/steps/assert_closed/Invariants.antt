@@ -1,7 +1,7 @@
 use Rattle.std.proofs.Common.{◌≡◌, ℕ, ◌<◌, length}
 use Rattle.subdiv_model.specs.Edges.{faces_of_edge}
 use Rattle.level_topology.specs.Topology.{edge_at}
-use Rattle.mask_tests.proofs.steps.assert_closed.Given as goal
+use Rattle.level_tests.proofs.steps.assert_closed.Given as goal
 
 -- the edges so far have two faces
 abbrev pub invariant-loop-e : goal.invariant-loop-e

@@ -1,15 +1,14 @@
 // One step of the cube: the origins of its points and their values, and its limit points.
 
 ghost use Rattle.std.specs.Prelude.{◌≡◌, ℕ, ◌<◌, ◌≤◌, ◌^◌, true, false, length, get_or};
-ghost use Rattle.std.specs.List.{All};
 ghost use Rattle.subdiv_model.specs.Edges.{edges_of, faces_of_edge};
 ghost use Rattle.level_topology.specs.Topology.{edge_at};
 ghost use Rattle.uniform_refiner.specs.Refined.{IsRefined};
-ghost use Rattle.mask_tests.specs.Values.{IsGoodPoint};
 
 use crate::expect::expect_same;
 use crate::mask_tables::has_two_faces;
 use crate::meshes::level_of;
+use crate::near::assert_near;
 use crate::solids::{CUBE, Mesh, ZERO};
 use level_topology::{Child, Level, Origin};
 use limit_stencils::{LimitFault, limit_table};
@@ -24,9 +23,6 @@ use std::test::Fail;
 use stencil_apply::StencilTable;
 use stencil_factory::identity;
 use uniform_refiner::refine;
-
-// The greatest denominator, and the greatest numerator over it.
-const NUMBER_BOUND: u128 = (1 << 126) - 1;
 
 // A point: its denominator and its numerators.
 macro_rules! point {
@@ -103,25 +99,6 @@ fn assert_closed(rt: &impl Abort, level: &Level)
     }
 }
 
-// Returns whether the numbers of a point are within their bounds.
-fn is_good(p: &Valued<Point3>) -> bool
-    ensures { result ≡ true → IsGoodPoint p.now }
-{
-    p.den > 0
-        && p.den <= NUMBER_BOUND
-        && p.value.x.unsigned_abs() <= NUMBER_BOUND
-        && p.value.y.unsigned_abs() <= NUMBER_BOUND
-        && p.value.z.unsigned_abs() <= NUMBER_BOUND
-}
-
-// Asserts that the numbers of each point are within their bounds.
-fn assert_good(rt: &impl Abort, points: &[Valued<Point3>])
-    ensures { All IsGoodPoint points.now }
-{
-    let are_good = points.iter().all(|p| is_good(p));
-    assert!(rt; are_good);
-}
-
 // The points of the next level come from the vertices of the cube, then from its faces and its edges.
 fn expect_origins(rt: &impl Abort, child: &Child) {
     let points = child.level().points();
@@ -149,7 +126,7 @@ fn expect_values<L: Ledger>(
 {
     let points = cube_points();
     assert!(rt; points.len() == level.points() as usize);
-    assert_good(rt, points);
+    assert_near(rt, points);
     assert_closed(rt, level);
     child.facts();
     let values = refine_values(alloc, level, child, points, Scheme::CatmullClark, steps)?;

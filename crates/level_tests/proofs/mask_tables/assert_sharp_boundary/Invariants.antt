@@ -2,7 +2,7 @@ use Rattle.std.proofs.Common.{◌≡◌, ℕ, ◌<◌, IsTrue, get_or}
 use Rattle.subdiv_model.specs.Edges.{has_end, is_boundary}
 use Rattle.subdiv_model.specs.Sharpness.{Smooth, Infinite}
 use Rattle.level_topology.specs.Topology.{edge_at}
-use Rattle.mask_tests.proofs.mask_tables.assert_sharp_boundary.Given as goal
+use Rattle.level_tests.proofs.mask_tables.assert_sharp_boundary.Given as goal
 
 -- the edges so far that end at the point have two faces or are sharp
 abbrev pub invariant-loop-e : goal.invariant-loop-e

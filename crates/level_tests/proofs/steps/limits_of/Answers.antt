@@ -1,5 +1,5 @@
-use Rattle.mask_tests.proofs.LimitLemmas.{all-marked, closed-sharp}
-use Rattle.mask_tests.proofs.steps.limits_of.Goals as goal
+use Rattle.level_tests.proofs.LimitLemmas.{all-marked, closed-sharp}
+use Rattle.level_tests.proofs.steps.limits_of.Goals as goal
 
 pub limit_table-requires-clause-complete : goal.limit_table-requires-clause-complete
 limit_table-requires-clause-complete g c =

@@ -1,5 +1,5 @@
 use Rattle.std.proofs.Common.{◌≡◌, ℕ, ◌<◌, true, false, get_or}
-use Rattle.mask_tests.proofs.steps.assert_whole.Given as goal
+use Rattle.level_tests.proofs.steps.assert_whole.Given as goal
 
 -- the points so far are complete
 abbrev pub invariant-loop-v : goal.invariant-loop-v

@@ -16,7 +16,7 @@ use Rattle.ratio128.specs.declared.valued.Valued.{Valued}
 use Rattle.primvar_refine.specs.View.{row_of, rows_of}
 use Rattle.primvar_refine.specs.Rows.{Row, row_at, AreGood}
 use Rattle.child_masks.specs.Masks.{has_origin, CanRefine}
-use Rattle.mask_tests.specs.Values.{IsGoodPoint}
+use Rattle.level_tests.specs.Values.{IsNearPoint}
 
 -- an origin that is among some is within their bounds
 same-is : (a b : PointOrigin) → same_origin a b ≡ true → a ≡ b
@@ -73,25 +73,26 @@ module _ (parent : Topology) (child : ChildTopology) (refined : IsRefined parent
     fine = λ same v h. refined.fine v (vertex-of v h);
   }
 
--- points whose numbers keep their bounds are good rows
-all-good : (P : Row → Type 0) → ((p : Valued Point3) → IsGoodPoint p → P (row_of (λ (q : Point3). q.x ∷ q.y ∷ q.z ∷ []) p))
-    → (points : List (Valued Point3)) → All IsGoodPoint points → All P (rows_of (λ (q : Point3). q.x ∷ q.y ∷ q.z ∷ []) points)
-all-good P each points good =
+-- points over 1, of numbers up to 8, are good rows
+pub all-near : (P : Row → Type 0) → ((p : Valued Point3) → IsNearPoint p → P (row_of (λ (q : Point3). q.x ∷ q.y ∷ q.z ∷ []) p))
+    → (points : List (Valued Point3)) → All IsNearPoint points → All P (rows_of (λ (q : Point3). q.x ∷ q.y ∷ q.z ∷ []) points)
+all-near P each points near =
     All-map P (row_of (λ (q : Point3). q.x ∷ q.y ∷ q.z ∷ [])) points
-    (All-weaker IsGoodPoint (λ p. P (row_of (λ (q : Point3). q.x ∷ q.y ∷ q.z ∷ []) p)) each points good)
+    (All-weaker IsNearPoint (λ p. P (row_of (λ (q : Point3). q.x ∷ q.y ∷ q.z ∷ []) p)) each points near)
 
-all-alike : (points : List (Valued Point3)) → All IsGoodPoint points
+all-alike : (points : List (Valued Point3)) → All IsNearPoint points
     → All (λ (row : Row). length row.numbers ≡ length (row_at (rows_of (λ (q : Point3). q.x ∷ q.y ∷ q.z ∷ []) points) 0).numbers) (rows_of (λ (q : Point3). q.x ∷ q.y ∷ q.z ∷ []) points)
-all-alike [] good = λ k d lt. absurd (omega (arith, lt))
-all-alike (p ∷ points) good = all-good (λ (row : Row). length row.numbers ≡ 3) (λ q h. refl) (p ∷ points) good
+all-alike [] near = λ k d lt. absurd (omega (arith, lt))
+all-alike (p ∷ points) near = all-near (λ (row : Row). length row.numbers ≡ 3) (λ q h. refl) (p ∷ points) near
 
-pub good-rows : (points : List (Valued Point3)) → All IsGoodPoint points → AreGood (rows_of (λ (q : Point3). q.x ∷ q.y ∷ q.z ∷ []) points)
-good-rows points good = record {
-  positive = all-good (λ (row : Row). 0 < row.den) (λ p h. h.positive) points good;
-  short = all-good (λ (row : Row). row.den ≤ number_bound) (λ p h. h.short) points good;
-  kept = all-good (λ (row : Row). greatest_amount row.numbers ≤ number_bound) (λ p h. below p.value.x p.value.y p.value.z h.x h.y h.z) points good;
-  alike = all-alike points good;
+pub amount-below : (x y z : ℤ) → unsigned_abs x ≤ 8 → unsigned_abs y ≤ 8 → unsigned_abs z ≤ 8 → greatest_amount (x ∷ y ∷ z ∷ []) ≤ 8
+amount-below x y z a b c = omega (arith, a, b, c)
+
+pub good-rows : (points : List (Valued Point3)) → All IsNearPoint points → AreGood (rows_of (λ (q : Point3). q.x ∷ q.y ∷ q.z ∷ []) points)
+good-rows points near = record {
+  positive = all-near (λ (row : Row). 0 < row.den) (λ p h. omega (arith, h.one)) points near;
+  short = all-near (λ (row : Row). row.den ≤ number_bound) (λ p h. omega (arith, h.one)) points near;
+  kept = all-near (λ (row : Row). greatest_amount row.numbers ≤ number_bound)
+      (λ p h. let below = amount-below p.value.x p.value.y p.value.z h.x h.y h.z in omega (arith, below)) points near;
+  alike = all-alike points near;
 }
-  where
-    below : (x y z : ℤ) → unsigned_abs x ≤ number_bound → unsigned_abs y ≤ number_bound → unsigned_abs z ≤ number_bound → greatest_amount (x ∷ y ∷ z ∷ []) ≤ number_bound
-    below x y z a b c = omega (arith, a, b, c)

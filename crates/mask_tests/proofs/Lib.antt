@@ -1,2 +1,0 @@
-mod LimitLemmas
-mod ValueLemmas
