@@ -44,10 +44,10 @@ module _ {T : Type 0} (value : T → ℕ) where
     numbers-read read e = ap (map value) e ∙ sym (seconds places (map value numbers) long) ∙ ap (map (λ (share : Share). share.1)) view
 
   -- the sums that were moved, where there were no numbers before
-  module _ (before numbers : List T) (places read kept sums : List ℕ) (none : before ≡ []) (from : read ≡ places) (to : kept ≡ places)
-      (put : map value numbers ≡ map value before ++ map (λ share. share.1) (moved read sums)) where
+  module _ (before numbers : List T) (places kept sums : List ℕ) (none : before ≡ []) (to : kept ≡ places)
+      (put : map value numbers ≡ map value before ++ map (λ share. share.1) (moved places sums)) where
     all : map value numbers ≡ map (λ share. share.1) (moved places sums)
-    all = put ∙ ap (λ ns. map value ns ++ map (λ (share : Share). share.1) (moved read sums)) none ∙ ap (λ ps. map (λ (share : Share). share.1) (moved ps sums)) from
+    all = put ∙ ap (λ ns. map value ns ++ map (λ (share : Share). share.1) (moved places sums)) none
 
     pub moved-equal : length numbers ≡ length kept
     moved-equal =

@@ -1,11 +1,9 @@
 -- Rows added to sums, each times a weight.
 use Rattle.std.proofs.Common.{◌≡◌, ℕ, ◌+◌, ◌*◌, ◌<◌, ◌≤◌, nat_lt, ◌||◌, ℤ, pos, ◌+ℤ◌, ◌*ℤ◌, List, [], ◌∷◌, length, map, get_or, drop, arith, refl, ap, sym, ◌∙◌, subst}
-use Rattle.std.specs.Prelude.{Result, OnOk}
 use Rattle.std.specs.List.{All, AllByRecursion, list_any, zip}
 use Rattle.std.proofs.Math.IntN.{+ℤ_idr, +ℤ_assoc}
 use Rattle.std.proofs.Math.ListN.{get_or-map}
 use Rattle.std.proofs.Math.Bool.{or_assoc, or-false}
-use Rattle.std.proofs.lemmas.Result.{on_ok_weaker}
 use Rattle.std.proofs.lemmas.List.{drop_more, length-map, map-id}
 use Rattle.std.proofs.lemmas.List as list
 use Rattle.std.proofs.lemmas.List.Elements.{All-map, recursion_from_All}
@@ -160,5 +158,5 @@ module _ (table : Table) (is : IsTable table) (point : ℕ) (known : point < len
     pub read-fits : (most : ℕ) → sum_of sums + factor * total_of (row_at table point).shares ≤ most → sum_of sums + factor * total_of (zip indices (map (λ n. n) numerators)) ≤ most
     read-fits most fits = subst (λ shares. sum_of sums + factor * total_of shares ≤ most) (sym read-shares) fits
 
-    pub read-added : {A E : Type 0} (r : Result A E) (new : List ℕ) → OnOk r (new ≡ added_shares factor (zip indices (map (λ n. n) numerators)) sums) → OnOk r (new ≡ added_shares factor (row_at table point).shares sums)
-    read-added r new added = on_ok_weaker r (λ e. e ∙ ap (λ shares. added_shares factor shares sums) read-shares) added
+    pub read-added : (new : List ℕ) → new ≡ added_shares factor (zip indices (map (λ n. n) numerators)) sums → new ≡ added_shares factor (row_at table point).shares sums
+    read-added new added = added ∙ ap (λ shares. added_shares factor shares sums) read-shares

@@ -1,25 +1,25 @@
 -- The places whose sum is not 0: one more, sorted, and taken.
-use Rattle.std.proofs.Common.{◌≡◌, ℕ, zero, suc, ◌+◌, ◌-◌, ◌<◌, ◌≤◌, Bool, true, false, not, ◌||◌, if◌then◌else◌, nat_eq, nat_lt, ℤ, pos, ◌+ℤ◌, ◌*ℤ◌, List, [], ◌∷◌, ◌++◌, length, map, get_or, set, replicate, arith, refl, ap, sym, ◌∙◌, subst, inl, inr, ◌⊎◌}
-use Rattle.std.specs.Prelude.{Result, Ok, Err, OnOk, OnErr}
-use Rattle.std.specs.List.{All, AllByRecursion}
+use Rattle.std.proofs.Common.{◌≡◌, ℕ, zero, suc, ◌+◌, ◌-◌, ◌<◌, ◌≤◌, Bool, true, false, not, ◌||◌, if◌then◌else◌, nat_eq, nat_lt, ℤ, pos, ◌+ℤ◌, ◌*ℤ◌, List, [], ◌∷◌, ◌++◌, length, map, get_or, set, take, replicate, arith, refl, ap, sym, ◌∙◌, subst, inl, inr, ◌⊎◌}
+use Rattle.std.specs.List.{All, AllByRecursion, range_with_len}
 use Rattle.std.specs.List.Sorted.{IsPermutation, IsNonDecreasing}
 use Rattle.std.proofs.lemmas.Bool.{and_parts, and_from, or_parts, cases_eq, eqb-true, ltb-true, ltb-false}
 use Rattle.std.proofs.lemmas.Bool.Decides.{nat_tests}
 use Rattle.std.proofs.lemmas.Int.{ints}
 use Rattle.std.proofs.Math.IntN.{+ℤ_idl, +ℤ_idr}
-use Rattle.std.proofs.lemmas.List.{get_or-set_other, get_or_past, length-set, length-map, map-set}
+use Rattle.std.proofs.lemmas.List.{get_or-set_other, get_or_past, length-replicate, length-set, length-map, length-take, length-take-le, map-set, take-append-le, take_all}
 use Rattle.std.proofs.lemmas.List.Elements.{All-from_get_or, recursion_from_All}
 use Rattle.std.proofs.lemmas.List.Folds.{list_any-append}
+use Rattle.std.proofs.lemmas.List.FromFn.{length-range_with_len, get_or-range_with_len}
 use Rattle.std.proofs.lemmas.List.Sorted.{list_any-IsPermutation}
-use Rattle.std.proofs.lemmas.Result.{on_ok_weaker}
 use Rattle.subdiv_model.specs.Polygons.{is_among, is_distinct}
 use Rattle.mesh_laws.proofs.SideLemmas.{among-place}
+use Rattle.mesh_laws.proofs.WalkLemmas.{distinct-le}
 use Rattle.level_topology.proofs.PlaceLemmas.{distinct-permutation}
 use Rattle.stencil_apply.specs.Table.{Share}
 use Rattle.stencil_apply.proofs.ArrayLemmas.{cons_both}
 use Rattle.stencil_factory.specs.Rows.{support_of, share_sum}
 use Rattle.stencil_factory.specs.Scratch.{added_at, shares_from, dense_sum, AreSharesOf}
-use Rattle.stencil_factory.specs.Touched.{AreTouched, touched_with, moved, cleared}
+use Rattle.stencil_factory.specs.Touched.{AreTouched, StartWithTouched, touched_with, moved, cleared}
 use Rattle.stencil_factory.proofs.EntryLemmas.{number-there}
 use Rattle.stencil_factory.proofs.ScratchLemmas.{some-added_at, dense_sum-added_at, dense_sum-zeros}
 
@@ -91,14 +91,28 @@ touched-zeros n = record {
 }
 
 -- Each listed place is a place of the sums.
+touched-below : (touched sums : List ℕ) → AreTouched touched sums → (v : ℕ) → is_among touched v ≡ true → v < length sums
+touched-below touched sums is v there =
+    let some : nat_lt 0 (get_or sums v 0) ≡ true = sym (is.named v) ∙ there in
+    let past = get_or_past sums v 0 in
+    grind (arith, nat_tests)
+
 pub touched-inside : (touched sums : List ℕ) → AreTouched touched sums → All (λ place. place < length sums) touched
-touched-inside touched sums is = All-from_get_or (λ place. place < length sums) touched 0 (λ i h. inside (get_or touched i 0) (among-place (get_or touched i 0) touched i h refl))
+touched-inside touched sums is = All-from_get_or (λ place. place < length sums) touched 0 (λ i h. touched-below touched sums is (get_or touched i 0) (among-place (get_or touched i 0) touched i h refl))
+
+-- distinct numbers below a bound are at most as many as the bound
+distinct-few : (numbers : List ℕ) (bound : ℕ) → is_distinct numbers ≡ true → ((n : ℕ) → is_among numbers n ≡ true → n < bound) → length numbers ≤ bound
+distinct-few numbers bound once below = omega (arith, length-range_with_len 0 bound, distinct-le numbers (range_with_len 0 bound) once among)
   where
-    inside : (v : ℕ) → is_among touched v ≡ true → v < length sums
-    inside v there =
-        let some : nat_lt 0 (get_or sums v 0) ≡ true = sym (is.named v) ∙ there in
-        let past = get_or_past sums v 0 in
-        grind (arith, nat_tests)
+    among : (n : ℕ) → is_among numbers n ≡ true → is_among (range_with_len 0 bound) n ≡ true
+    among n there =
+        let at : get_or (range_with_len 0 bound) n 0 ≡ n = omega (arith, get_or-range_with_len 0 bound n 0 (below n there)) in
+        among-place n (range_with_len 0 bound) n (omega (arith, length-range_with_len 0 bound, below n there)) at
+
+-- No more places are touched than there are, so one more number has space.
+pub touched-few : (numbers : List ℕ) (count : ℕ) (sums : List ℕ) → StartWithTouched numbers count sums → count < length numbers
+touched-few numbers count sums is =
+    omega (arith, is.long, length-take count numbers, distinct-few (take count numbers) (length sums) is.touched.once (touched-below (take count numbers) sums is.touched))
 
 zeros-by_place : (xs : List ℕ) → ((v : ℕ) → get_or xs v 0 ≡ 0) → xs ≡ replicate (length xs) 0
 zeros-by_place [] h = refl
@@ -302,50 +316,77 @@ module _ {T : Type 0} (value : T → ℕ) (place : ℕ) (sum : T) (sums : List T
   pub sum-there : value sum ≡ get_or old place 0
   sum-there = here ∙ ap (λ l. get_or l place 0) view
 
-  module _ (amount : ℕ) (after : T) (more : value after ≡ value sum + amount) where
+  module _ (amount : ℕ) (after : T) (grown : value after ≡ value sum + amount) where
     put : map value (set sums place after) ≡ added_at place amount (map value sums)
     put =
-        map-set value sums place after ∙ ap (set (map value sums) place) (more ∙ ap (λ n. n + amount) here)
+        map-set value sums place after ∙ ap (set (map value sums) place) (grown ∙ ap (λ n. n + amount) here)
         ∙ set-added place amount (map value sums) (omega (arith, long, length-map sums value))
 
     -- The list of places after the addition fits the new sums.
-    pub touched-step : (read : ℕ) (touched noted : List ℕ) → 0 < amount → read ≡ value sum → noted ≡ touched_with place read touched → AreTouched touched (map value sums) → AreTouched noted (map value (set sums place after))
-    touched-step read touched noted some of is before =
-        subst (AreTouched noted) (sym put)
-        (subst (λ t. AreTouched t (added_at place amount (map value sums))) (sym (is ∙ ap (λ n. touched_with place n touched) (of ∙ here)))
-        (touched-added place amount touched (map value sums) some (omega (arith, long, length-map sums value)) before))
+    pub touched-step : (read : ℕ) (numbers written : List ℕ) (count more : ℕ) → 0 < amount → read ≡ value sum → length written ≡ length numbers → take more written ≡ touched_with place read (take count numbers)
+        → StartWithTouched numbers count (map value sums) → StartWithTouched written more (map value (set sums place after))
+    touched-step read numbers written count more some of same is before = record {
+      long = omega (arith, same, before.long, length-map sums value, length-map (set sums place after) value, length-set sums place after);
+      touched =
+          subst (AreTouched (take more written)) (sym put)
+          (subst (λ t. AreTouched t (added_at place amount (map value sums))) (sym (is ∙ ap (λ n. touched_with place n (take count numbers)) (of ∙ here)))
+          (touched-added place amount (take count numbers) (map value sums) some (omega (arith, long, length-map sums value)) before.touched));
+    }
 
     pub sums-step : map value (set sums place after) ≡ added_at place amount old
     sums-step = put ∙ ap (added_at place amount) view
 
-pub touched-none : (touched sums : List ℕ) (n : ℕ) → touched ≡ [] → sums ≡ replicate n 0 → AreTouched touched sums
-touched-none touched sums n none zeros = subst (λ t. AreTouched t sums) (sym none) (subst (AreTouched []) (sym zeros) (touched-zeros n))
+-- The list that a body starts with: all sums are 0.
+pub untouched : (numbers sums : List ℕ) (n : ℕ) → length numbers ≡ n + 1 → sums ≡ replicate n 0 → StartWithTouched numbers 0 sums
+untouched numbers sums n long zeros = record {
+  long = omega (arith, long, ap length zeros, length-replicate {A = ℕ} n 0);
+  touched = subst (AreTouched []) (sym zeros) (touched-zeros n);
+}
 
--- Sums that were taken, of numbers of any type that has a value.
-module _ {T : Type 0} (value : T → ℕ) (places : List ℕ) (sums : List T) (touched : AreTouched places (map value sums)) where
-  pub taken-inside : All (λ place. place < length sums) places
-  taken-inside = subst (λ n. All (λ place. place < n) places) (length-map sums value) (touched-inside places (map value sums) touched)
+-- The first numbers of a list, in front of the others.
+pub first-part : (count : ℕ) (part rest : List ℕ) → length part ≡ count → take count (part ++ rest) ≡ part
+first-part count part rest same = take-append-le count part rest (omega (arith, same)) ∙ take_all count part (omega (arith, same))
 
-  module _ {A E : Type 0} (r : Result A E) (new : List T) (zeros : OnOk r (map value new ≡ cleared places (map value sums))) where
-    -- After `Ok` all sums are 0 and the list is empty. After an error nothing changed.
-    pub taken-touched : (left : List ℕ) → OnOk r (left ≡ []) → OnErr r (new ≡ sums) → OnErr r (left ≡ places) → AreTouched left (map value new)
-    taken-touched left none same_sums same_places = by_result r zeros none same_sums same_places
-      where
-        by_result : (r : Result A E) → OnOk r (map value new ≡ cleared places (map value sums)) → OnOk r (left ≡ []) → OnErr r (new ≡ sums) → OnErr r (left ≡ places) → AreTouched left (map value new)
-        by_result (Ok x) zeros none same_sums same_places =
-            touched-none left (map value new) (length (map value sums)) none (zeros ∙ cleared-zeros places (map value sums) touched)
-        by_result (Err e) zeros none same_sums same_places = rw (same_sums, same_places) touched
+-- Sorting the touched places keeps them. The list was lent as `lent` and is written back as `back`.
+pub sorted-touched : (numbers lent sorted back sums : List ℕ) (count : ℕ) → lent ≡ numbers → back ≡ sorted → length sorted ≡ length lent → IsPermutation (take count lent) (take count sorted) → StartWithTouched numbers count sums → StartWithTouched back count sums
+sorted-touched numbers lent sorted back sums count from to same moved is = record {
+  long = ap length to ∙ same ∙ ap length from ∙ is.long;
+  touched =
+      subst (λ l. AreTouched (take count l) sums) (sym to)
+      (touched-permutation (take count lent) (take count sorted) sums moved (subst (λ l. AreTouched (take count l) sums) (sym from) is.touched));
+}
 
-    pub taken-zeros : (old : List ℕ) → map value sums ≡ old → OnOk r (map value new ≡ replicate (length old) 0)
-    taken-zeros old view =
-        on_ok_weaker r (λ e. e ∙ cleared-zeros places (map value sums) touched ∙ ap (λ (l : List ℕ). replicate (length l) 0) view) zeros
+-- Sums that were taken, of numbers of any type that has a value. The body reads the places as `read`.
+module _ {T : Type 0} (value : T → ℕ) (numbers read : List ℕ) (of : read ≡ numbers) (count : ℕ) (sums : List T) (start : StartWithTouched numbers count (map value sums)) where
+  listed : AreTouched (take count read) (map value sums)
+  listed = subst (λ l. AreTouched (take count l) (map value sums)) (sym of) start.touched
 
-  module _ {A E : Type 0} (r : Result A E) (old : List ℕ) (view : map value sums ≡ old) (entries : List Share) (is : OnOk r (entries ≡ moved places (map value sums))) where
+  pub taken-count : count ≡ length (take count read)
+  taken-count = sym (length-take-le count read (omega (arith, ap length of, touched-few numbers count (map value sums) start)))
+
+  pub taken-inside : All (λ place. place < length sums) (take count read)
+  taken-inside = subst (λ n. All (λ place. place < n) (take count read)) (length-map sums value) (touched-inside (take count read) (map value sums) listed)
+
+  -- After an error nothing changed.
+  pub kept-touched : (left : List T) → left ≡ sums → StartWithTouched numbers count (map value left)
+  kept-touched left same = subst (λ l. StartWithTouched numbers count (map value l)) (sym same) start
+
+  module _ (left : List T) (is : map value left ≡ cleared (take count read) (map value sums)) where
+    zeros : map value left ≡ replicate (length (map value sums)) 0
+    zeros = is ∙ cleared-zeros (take count read) (map value sums) listed
+
+    pub taken-touched : StartWithTouched numbers 0 (map value left)
+    taken-touched = untouched numbers (map value left) (length (map value sums)) start.long zeros
+
+    pub taken-zeros : (old : List ℕ) → map value sums ≡ old → map value left ≡ replicate (length old) 0
+    taken-zeros old view = zeros ∙ ap (λ (l : List ℕ). replicate (length l) 0) view
+
+  module _ (old : List ℕ) (view : map value sums ≡ old) (entries : List Share) (is : entries ≡ moved (take count read) (map value sums)) where
     -- the entries are the sums that were not 0
-    pub taken-any : OnOk r (AreSharesOf old entries)
-    taken-any =
-        on_ok_weaker r (λ e. subst (λ l. AreSharesOf l entries) view (subst (AreSharesOf (map value sums)) (sym e) (moved-any places (map value sums) touched))) is
+    pub taken-any : AreSharesOf old entries
+    taken-any = subst (λ l. AreSharesOf l entries) view (subst (AreSharesOf (map value sums)) (sym is) (moved-any (take count read) (map value sums) listed))
 
     -- The entries ascend if the places do.
-    pub taken-sorted : IsNonDecreasing places → OnOk r (entries ≡ shares_from 0 old)
-    taken-sorted rise = on_ok_weaker r (λ e. e ∙ moved-shares places (map value sums) rise touched ∙ ap (shares_from 0) view) is
+    pub taken-sorted : IsNonDecreasing (take count numbers) → entries ≡ shares_from 0 old
+    taken-sorted rise =
+        is ∙ moved-shares (take count read) (map value sums) (subst (λ l. IsNonDecreasing (take count l)) (sym of) rise) listed ∙ ap (shares_from 0) view

@@ -78,6 +78,7 @@ impl RowMasks for ChildRows<'_> {
             buffer,
             dens,
             scratch,
-        )
+        );
+        Ok(())
     }
 }

@@ -59,12 +59,12 @@ pub(crate) fn add_row<T: Natural>(
     point: u32,
     factor: T,
     sums: &mut Scratch<T>,
-) -> Result<(), Memory>
+)
     requires known { point < length table.now.rows }
     requires places { length sums.old ≡ table.now.controls }
     requires some { 0 < T.value factor }
     requires fits { sum_of sums.old + T.value factor * total_of (row_at table.now point).shares ≤ T.most }
-    ensures { OnOk result (sums.new ≡ added_shares (T.value factor) (row_at table.now point).shares sums.old) }
+    ensures { sums.new ≡ added_shares (T.value factor) (row_at table.now point).shares sums.old }
 {
     table.facts();
     let indices = table.row_indices(point);
@@ -75,22 +75,17 @@ pub(crate) fn add_row<T: Natural>(
 }
 
 // Adds the row of each point in `weights`, times its weight, to the sums of the control points.
-fn add_rows<T: Natural>(
-    table: &StencilTable,
-    weights: &Entries<T>,
-    sums: &mut Scratch<T>,
-) -> Result<(), Memory>
+fn add_rows<T: Natural>(table: &StencilTable, weights: &Entries<T>, sums: &mut Scratch<T>)
     requires { CanAddRows T.most table.now weights.now sums.old }
-    ensures added { OnOk result (sums.new ≡ added_rows table.now weights.now sums.old) }
-    ensures places { OnOk result (length sums.new ≡ table.now.controls) }
+    ensures added { sums.new ≡ added_rows table.now weights.now sums.old }
+    ensures places { length sums.new ≡ table.now.controls }
 {
     table.facts();
     let points = weights.indices();
     let factors = weights.numerators();
     for i in 0..points.len() {
-        add_row(table, points[i], factors[i], sums)?;
+        add_row(table, points[i], factors[i], sums);
     }
-    Ok(())
 }
 
 // Replaces `entries` by the weighted sum of rows, ascending by control point. All sums are 0 again afterwards.
@@ -105,9 +100,8 @@ fn sum_rows<T: Natural>(
     ensures clear { OnOk result (sums.new ≡ replicate table.now.controls 0) }
     ensures entries { OnOk result (entries.new ≡ shares_from 0 (added_rows table.now weights.now (replicate table.now.controls 0))) }
 {
-    add_rows(table, weights, sums)?;
-    sums.take(entries)?;
-    Ok(())
+    add_rows(table, weights, sums);
+    sums.take(entries)
 }
 
 // Replaces `buffers.entries` by the entries of row `row`, over the denominator `den`.

@@ -9,7 +9,6 @@ use number_width::Natural;
 use ratio128::Memory;
 use std::alloc::Global;
 use std::marker::Model;
-use std::mem::swap;
 
 /// A list of places with a number for each: points with weights, or control points with numerators.
 #[derive(Drop)]
@@ -79,22 +78,20 @@ impl<T: Natural> Entries<T> {
         &self.numerators
     }
 
-    /// Replaces the entries by the places and their sums. The sums of these places become 0, and `places` becomes empty.
+    /// Replaces the entries by the places and their sums. The sums of these places become 0.
     ///
-    /// The error is `Memory`. After an error the places and the sums are unchanged.
-    pub(crate) fn replace(&mut self, places: &mut Vec<u32>, sums: &mut Vec<T>) -> Result<(), Memory>
-        requires inside { All (λ place. place < length sums.old.items) places.old.items }
-        ensures entries { OnOk result (self.new ≡ moved places.old.items (map T.value sums.old.items)) }
-        ensures sums { OnOk result (map T.value sums.new.items ≡ cleared places.old.items (map T.value sums.old.items)) }
-        ensures places { OnOk result (places.new.items ≡ []) }
-        ensures same_sums { OnErr result (sums.new.items ≡ sums.old.items) }
-        ensures same_places { OnErr result (places.new.items ≡ places.old.items) }
+    /// The error is `Memory`. After an error the sums are unchanged.
+    pub(crate) fn replace(&mut self, places: &[u32], sums: &mut Vec<T>) -> Result<(), Memory>
+        requires inside { All (λ place. place < length sums.old.items) places.now }
+        ensures entries { OnOk result (self.new ≡ moved places.now (map T.value sums.old.items)) }
+        ensures sums { OnOk result (map T.value sums.new.items ≡ cleared places.now (map T.value sums.old.items)) }
+        ensures same { OnErr result (sums.new.items ≡ sums.old.items) }
     {
         self.indices.clear();
         self.numerators.clear();
         self.numerators.reserve(places.len())?;
+        self.indices.extend_from_slice(places)?;
         move_sums(sums, places, &mut self.numerators);
-        swap(places, &mut self.indices);
         Ok(())
     }
 }

@@ -1,6 +1,6 @@
 //! Adds the terms of a mask as weights of the level's points. A face point becomes equal weights of the corners of its face.
 
-ghost use Rattle.std.specs.Prelude.{◌≡◌, ◌*◌, ◌/◌, ◌<◌, ◌≤◌, [], ◌∷◌, length, get_or, OnOk};
+ghost use Rattle.std.specs.Prelude.{◌≡◌, ◌*◌, ◌/◌, ◌<◌, ◌≤◌, [], ◌∷◌, length, get_or};
 ghost use Rattle.std.specs.List.{All, AllByRecursion};
 ghost use Rattle.subdiv_model.specs.Channel.{number_bound};
 ghost use Rattle.mask_rules.specs.View.{source_of, terms_of};
@@ -12,7 +12,7 @@ use crate::scratch::Scratch;
 use level_topology::Level;
 use mask_rules::{At, Term};
 use number_width::Natural;
-use ratio128::{Memory, quotient};
+use ratio128::quotient;
 
 /// Returns `weight * (multiple / den)`. It skips the division if `den` equals `multiple`.
 pub(crate) fn weight_over(weight: u128, multiple: u128, den: u128) -> u128
@@ -33,19 +33,18 @@ pub(crate) fn add_corners<T: Natural>(
     factor: u128,
     multiple: u128,
     dens: &[u128],
-) -> Result<(), Memory>
+)
     requires within { All (λ v. v < length dens.now) corners.now }
     requires positive { All (λ den. 0 < den) dens.now }
     requires can { CanAddAll T.most (corner_shares dens.now factor multiple corners.now) scratch.old }
-    ensures { OnOk result (scratch.new ≡ added_shares 1 (corner_shares dens.now factor multiple corners.now) scratch.old) }
+    ensures { scratch.new ≡ added_shares 1 (corner_shares dens.now factor multiple corners.now) scratch.old }
 {
     let mut rest = corners;
     while let [v, others @ ..] = rest {
         let amount = weight_over(factor, multiple, dens[*v as usize]);
-        scratch.add(*v, T::of(amount))?;
+        scratch.add(*v, T::of(amount));
         rest = others;
     }
-    Ok(())
 }
 
 /// Adds `weight * (multiple / den)` at a point, where `den` is the point's denominator.
@@ -55,14 +54,14 @@ pub(crate) fn add_point<T: Natural>(
     weight: u128,
     multiple: u128,
     dens: &[u128],
-) -> Result<(), Memory>
+)
     requires known { point < length dens.now }
     requires positive { All (λ den. 0 < den) dens.now }
     requires can { CanAddAll T.most ((point, weight * (multiple / get_or dens.now point 1)) ∷ []) scratch.old }
-    ensures { OnOk result (scratch.new ≡ added_at point (weight * (multiple / get_or dens.now point 1)) scratch.old) }
+    ensures { scratch.new ≡ added_at point (weight * (multiple / get_or dens.now point 1)) scratch.old }
 {
     let amount = weight_over(weight, multiple, dens[point as usize]);
-    scratch.add(point, T::of(amount))
+    scratch.add(point, T::of(amount));
 }
 
 // Adds one term of a mask, over `multiple`, a multiple of the denominator of the term's source.
@@ -73,16 +72,16 @@ fn add_term<T: Natural>(
     multiple: u128,
     dens: &[u128],
     faces: &[u128],
-) -> Result<(), Memory>
+)
     requires dens { ArePointDenominators parent.now.level dens.now }
     requires weigh { CanWeigh parent.now.level dens.now faces.now multiple term.now.weight (source_of term.now.at) }
     requires can { CanAddAll T.most (source_shares parent.now.level dens.now faces.now multiple term.now.weight (source_of term.now.at)) scratch.old }
-    ensures { OnOk result (scratch.new ≡ added_shares 1 (source_shares parent.now.level dens.now faces.now multiple term.now.weight (source_of term.now.at)) scratch.old) }
+    ensures { scratch.new ≡ added_shares 1 (source_shares parent.now.level dens.now faces.now multiple term.now.weight (source_of term.now.at)) scratch.old }
 {
     match term.at {
         At::Point(v) => {
             let amount = weight_over(term.weight, multiple, dens[v as usize]);
-            scratch.add(v, T::of(amount))
+            scratch.add(v, T::of(amount));
         }
         At::FacePoint(f) => {
             parent.facts();
@@ -95,7 +94,7 @@ fn add_term<T: Natural>(
                 factor,
                 quotient(den, corners.len() as u128),
                 dens,
-            )
+            );
         }
     }
 }
@@ -108,16 +107,15 @@ pub(crate) fn add_terms<T: Natural>(
     multiple: u128,
     dens: &[u128],
     faces: &[u128],
-) -> Result<(), Memory>
+)
     requires dens { ArePointDenominators parent.now.level dens.now }
     requires weigh { AllByRecursion (CanWeighTerm parent.now.level dens.now faces.now multiple) (terms_of terms.now) }
     requires can { CanAddAll T.most (flat_shares parent.now.level dens.now faces.now multiple (terms_of terms.now)) scratch.old }
-    ensures { OnOk result (scratch.new ≡ added_shares 1 (flat_shares parent.now.level dens.now faces.now multiple (terms_of terms.now)) scratch.old) }
+    ensures { scratch.new ≡ added_shares 1 (flat_shares parent.now.level dens.now faces.now multiple (terms_of terms.now)) scratch.old }
 {
     let mut rest = terms;
     while let [term, others @ ..] = rest {
-        add_term(scratch, parent, term, multiple, dens, faces)?;
+        add_term(scratch, parent, term, multiple, dens, faces);
         rest = others;
     }
-    Ok(())
 }

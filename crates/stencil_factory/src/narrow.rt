@@ -63,7 +63,7 @@ fn compose_row<M: PointMasks>(
     if den == 0 {
         return Ok(0);
     }
-    add_weighted_rows(table, weights, multiple, &mut buffers.controls)?;
+    add_weighted_rows(table, weights, multiple, &mut buffers.controls);
     buffers.controls.take(&mut buffers.entries)?;
     Ok(den)
 }

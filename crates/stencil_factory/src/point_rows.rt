@@ -57,6 +57,7 @@ impl<M: PointMasks> RowMasks for PointRows<'_, M> {
     ) -> Result<(), Memory> {
         self.masks.put(row, buffer)?;
         let multiple = quotient(den, buffer.denominator());
-        add_weights(scratch, buffer.weights(), multiple, dens)
+        add_weights(scratch, buffer.weights(), multiple, dens);
+        Ok(())
     }
 }

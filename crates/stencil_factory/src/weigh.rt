@@ -1,6 +1,6 @@
 //! Gives a child point as weights of the level's points.
 
-ghost use Rattle.std.specs.Prelude.{◌≡◌, ◌<◌, ◌≤◌, length, get_or, replicate, OnOk};
+ghost use Rattle.std.specs.Prelude.{◌≡◌, ◌<◌, ◌≤◌, length, get_or, replicate};
 ghost use Rattle.subdiv_model.specs.Mask.{face_mask};
 ghost use Rattle.subdiv_model.specs.Refined.{mask_denominator, source_denominator};
 ghost use Rattle.subdiv_model.specs.Channel.{number_bound};
@@ -17,7 +17,7 @@ use child_masks::{PointMask, Survey};
 use level_topology::{Child, Level};
 use mask_rules::{MadeMask, Scheme, face_mask};
 use number_width::Natural;
-use ratio128::{Memory, quotient};
+use ratio128::quotient;
 
 // Adds the weights of the face point of face `f`: one weight for each corner.
 fn weigh_face<T: Natural>(
@@ -26,19 +26,19 @@ fn weigh_face<T: Natural>(
     den: u128,
     dens: &[u128],
     scratch: &mut Scratch<T>,
-) -> Result<(), Memory>
+)
     requires known { f < length parent.now.level.polygons }
     requires dens { ArePointDenominators parent.now.level dens.now }
     requires den { den ≡ mask_denominator (source_denominator parent.now.level dens.now) (face_mask parent.now.level f) }
     requires short { den ≤ number_bound }
     requires fits { den ≤ T.most }
     requires clear { scratch.old ≡ replicate parent.now.level.point_count 0 }
-    ensures { OnOk result (IsWeighed parent.now.level dens.now (face_mask parent.now.level f) scratch.new) }
+    ensures { IsWeighed parent.now.level dens.now (face_mask parent.now.level f) scratch.new }
 {
     parent.facts();
     let mask = face_mask(parent, f);
     let multiple = quotient(den, mask.size() as u128);
-    add_corners(scratch, parent.face_vertices(f), 1, multiple, dens)
+    add_corners(scratch, parent.face_vertices(f), 1, multiple, dens);
 }
 
 /// Adds the weights of child point `p` to `scratch`, which has a 0 for each point of the level. `den` is the common denominator of
@@ -53,7 +53,7 @@ pub(crate) fn weigh_mask<T: Natural>(
     made: &mut MadeMask,
     dens: &[u128],
     scratch: &mut Scratch<T>,
-) -> Result<(), Memory>
+)
     requires child { CanRefine parent.now child.now (scheme_of scheme) }
     requires known { p < length child.now.origins }
     requires dens { ArePointDenominators parent.now.level dens.now }
@@ -62,7 +62,7 @@ pub(crate) fn weigh_mask<T: Natural>(
     requires short { den ≤ number_bound }
     requires fits { den ≤ T.most }
     requires clear { scratch.old ≡ replicate parent.now.level.point_count 0 }
-    ensures { OnOk result (IsWeighed parent.now.level dens.now (mask_from parent.now.level (scheme_of scheme) (get_or child.now.origins p (FromVertex 0))) scratch.new) }
+    ensures { IsWeighed parent.now.level dens.now (mask_from parent.now.level (scheme_of scheme) (get_or child.now.origins p (FromVertex 0))) scratch.new }
 {
     parent.facts();
     child.facts();
@@ -77,7 +77,7 @@ pub(crate) fn weigh_mask<T: Natural>(
                 multiple,
                 dens,
                 &survey.faces,
-            )
+            );
         }
     }
 }

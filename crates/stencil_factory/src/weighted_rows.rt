@@ -1,6 +1,6 @@
 //! Adds rows of points, each times the weight of its point. It skips weights of 0.
 
-ghost use Rattle.std.specs.Prelude.{◌≡◌, ◌<◌, [], ◌∷◌, length, OnOk};
+ghost use Rattle.std.specs.Prelude.{◌≡◌, ◌<◌, [], ◌∷◌, length};
 ghost use Rattle.std.specs.List.{All};
 ghost use Rattle.subdiv_model.specs.Channel.{number_bound};
 ghost use Rattle.stencil_factory.specs.Rows.{dens_of};
@@ -11,7 +11,6 @@ use crate::compose::add_row;
 use crate::flat::weight_over;
 use crate::scratch::Scratch;
 use number_width::Natural;
-use ratio128::Memory;
 use stencil_apply::StencilTable;
 
 // Adds the row of a point times `weight * (multiple / den)`, where `den` is the point's denominator.
@@ -20,19 +19,19 @@ fn add_weighted_row<T: Natural>(
     weight: &(u32, u128),
     multiple: u128,
     sums: &mut Scratch<T>,
-) -> Result<(), Memory>
+)
     requires known { weight.now.0 < length table.now.rows }
     requires can { CanAddRows T.most table.now (amounts_of (dens_of table.now) multiple (weighing (weight.now ∷ []))) sums.old }
     requires short { CanAddRows number_bound table.now (amounts_of (dens_of table.now) multiple (weighing (weight.now ∷ []))) sums.old }
-    ensures { OnOk result (sums.new ≡ added_rows table.now (amounts_of (dens_of table.now) multiple (weighing (weight.now ∷ []))) sums.old) }
+    ensures { sums.new ≡ added_rows table.now (amounts_of (dens_of table.now) multiple (weighing (weight.now ∷ []))) sums.old }
 {
     if weight.1 == 0 {
-        return Ok(());
+        return;
     }
     table.facts();
     let den = table.denominators()[weight.0 as usize];
     let amount = weight_over(weight.1, multiple, den);
-    add_row(table, weight.0, T::of(amount), sums)
+    add_row(table, weight.0, T::of(amount), sums);
 }
 
 /// Adds the row of each point times `weight * (multiple / den)`, where `den` is the point's denominator.
@@ -41,17 +40,16 @@ pub(crate) fn add_weighted_rows<T: Natural>(
     weights: &[(u32, u128)],
     multiple: u128,
     sums: &mut Scratch<T>,
-) -> Result<(), Memory>
+)
     requires known { All (λ share. share.0 < length table.now.rows) weights.now }
     requires can { CanAddRows T.most table.now (amounts_of (dens_of table.now) multiple (weighing weights.now)) sums.old }
     requires short { CanAddRows number_bound table.now (amounts_of (dens_of table.now) multiple (weighing weights.now)) sums.old }
-    ensures { OnOk result (sums.new ≡ added_rows table.now (amounts_of (dens_of table.now) multiple (weighing weights.now)) sums.old) }
+    ensures { sums.new ≡ added_rows table.now (amounts_of (dens_of table.now) multiple (weighing weights.now)) sums.old }
 {
     table.facts();
     let mut rest = weights;
     while let [weight, others @ ..] = rest {
-        add_weighted_row(table, weight, multiple, sums)?;
+        add_weighted_row(table, weight, multiple, sums);
         rest = others;
     }
-    Ok(())
 }

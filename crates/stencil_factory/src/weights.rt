@@ -132,16 +132,16 @@ fn add_weight<T: Natural>(
     weight: &(u32, u128),
     multiple: u128,
     dens: &[u128],
-) -> Result<(), Memory>
+)
     requires known { weight.now.0 < length dens.now }
     requires positive { All (λ den. 0 < den) dens.now }
     requires can { CanAddAll T.most (amounts_of dens.now multiple (weighing (weight.now ∷ []))) scratch.old }
-    ensures { OnOk result (scratch.new ≡ added_shares 1 (amounts_of dens.now multiple (weighing (weight.now ∷ []))) scratch.old) }
+    ensures { scratch.new ≡ added_shares 1 (amounts_of dens.now multiple (weighing (weight.now ∷ []))) scratch.old }
 {
     if weight.1 == 0 {
-        return Ok(());
+        return;
     }
-    add_point(scratch, weight.0, weight.1, multiple, dens)
+    add_point(scratch, weight.0, weight.1, multiple, dens);
 }
 
 /// Adds `weight * (multiple / den)` at the point of each weight, where `den` is the point's denominator. It skips weights of 0.
@@ -150,16 +150,15 @@ pub(crate) fn add_weights<T: Natural>(
     weights: &[(u32, u128)],
     multiple: u128,
     dens: &[u128],
-) -> Result<(), Memory>
+)
     requires known { All (λ share. share.0 < length dens.now) weights.now }
     requires positive { All (λ den. 0 < den) dens.now }
     requires can { CanAddAll T.most (amounts_of dens.now multiple (weighing weights.now)) scratch.old }
-    ensures { OnOk result (scratch.new ≡ added_shares 1 (amounts_of dens.now multiple (weighing weights.now)) scratch.old) }
+    ensures { scratch.new ≡ added_shares 1 (amounts_of dens.now multiple (weighing weights.now)) scratch.old }
 {
     let mut rest = weights;
     while let [weight, others @ ..] = rest {
-        add_weight(scratch, weight, multiple, dens)?;
+        add_weight(scratch, weight, multiple, dens);
         rest = others;
     }
-    Ok(())
 }

@@ -15,7 +15,7 @@ add_shares-requires-clause-fits g c =
 pub returns-in-Narrow : goal.returns-in-Narrow
 returns-in-Narrow g c =
     read-added c.args.table.now c.facts.ensures c.args.point c.requires.known c.row_indices-indices.result.now c.in-Narrow.numerators.now c.row_indices-indices.ensures.indices c.in-Narrow.ensures
-    (g.T.Natural.value c.args.factor) c.args.sums.now c.add_shares.result c.add_shares.new.self c.add_shares.ensures
+    (g.T.Natural.value c.args.factor) c.args.sums.now c.add_shares.new.self c.add_shares.ensures
 
 pub add_shares-requires-in-Wide-clause-inside : goal.add_shares-requires-in-Wide-clause-inside
 add_shares-requires-in-Wide-clause-inside g c = read-inside c.args.table.now c.facts.ensures c.args.point c.requires.known c.row_indices-indices.result.now c.in-Wide.numerators.now c.row_indices-indices.ensures.indices c.in-Wide.ensures _ c.requires.places
@@ -31,4 +31,4 @@ add_shares-requires-in-Wide-clause-fits g c =
 pub returns-in-Wide : goal.returns-in-Wide
 returns-in-Wide g c =
     read-added c.args.table.now c.facts.ensures c.args.point c.requires.known c.row_indices-indices.result.now c.in-Wide.numerators.now c.row_indices-indices.ensures.indices c.in-Wide.ensures
-    (g.T.Natural.value c.args.factor) c.args.sums.now c.add_shares-in-Wide.result c.add_shares-in-Wide.new.self c.add_shares-in-Wide.ensures
+    (g.T.Natural.value c.args.factor) c.args.sums.now c.add_shares-in-Wide.new.self c.add_shares-in-Wide.ensures

@@ -21,9 +21,9 @@ loop-i-preserved g c = record {
   all =
       round-all c.args.table.now c.facts.ensures g.T.Natural.value g.T.Natural.most c.args.weights.now c.indices-points.result.now c.numerators-factors.result.now
       c.indices-points.ensures c.numerators-factors.ensures c.loop-i.i c.loop-i.sums c.loop-i-test.true c.index-factors-i.result c.index-factors-i.is c.loop-i.invariant.can
-      c.add_row.new.sums c.in_ok-add_row.ensures _ c.loop-i.invariant.all;
+      c.add_row.new.sums c.add_row.ensures _ c.loop-i.invariant.all;
   can =
       round-can c.args.table.now c.facts.ensures g.T.Natural.value g.T.Natural.most c.args.weights.now c.indices-points.result.now c.numerators-factors.result.now
       c.indices-points.ensures c.numerators-factors.ensures c.loop-i.i c.loop-i.sums c.loop-i-test.true c.index-factors-i.result c.index-factors-i.is c.loop-i.invariant.can
-      c.add_row.new.sums c.in_ok-add_row.ensures;
+      c.add_row.new.sums c.add_row.ensures;
 }

@@ -20,7 +20,7 @@ loop-rest-preserved g c =
     let some = c.in-len1-up.len_at_least in
     let before = c.loop-rest.invariant in
     let added : c.add.new.self ≡ added_at (get_or rest 0 0) c.weight_over-amount.result c.loop-rest.scratch =
-    rw c.of.ensures at c.in_ok-add.ensures in
+    rw c.of.ensures at c.add.ensures in
     record {
       within = within-next dens c.args.factor c.args.multiple rest some before.within;
       can = corners-can dens c.args.factor c.args.multiple rest some before.within g.T.Natural.most c.loop-rest.scratch c.add.new.self before.can

@@ -1,5 +1,4 @@
 use Rattle.std.proofs.Common.{arith, ap, length, sym, ◌∙◌, subst}
-use Rattle.std.proofs.lemmas.Result.{on_ok_weaker}
 use Rattle.child_masks.proofs.FaceLemmas.{face-corners}
 use Rattle.child_masks.proofs.OriginLemmas.{some-corners}
 use Rattle.stencil_factory.specs.Scratch.{added_at, added_shares}
@@ -74,11 +73,11 @@ pub returns-in-Point : goal.returns-in-Point
 returns-in-Point g c =
     let added = point-added c.args.parent.now.level c.args.dens.now c.args.faces.now c.args.multiple c.args.term.now
     c.requires.weigh c.in-Point.v c.weight_over-amount.result c.in-Point.is c.weight_over-amount.ensures c.args.scratch.now c.add.new.self in
-    on_ok_weaker c.add.result (λ is. added (is ∙ ap (λ n. added_at c.in-Point.v n c.args.scratch.now) c.of.ensures)) c.add.ensures
+    added (c.add.ensures ∙ ap (λ n. added_at c.in-Point.v n c.args.scratch.now) c.of.ensures)
 
 pub returns-in-FacePoint : goal.returns-in-FacePoint
 returns-in-FacePoint g c =
     let shares = face-shares c.args.parent.now.level c.args.dens.now c.args.faces.now c.args.multiple c.args.term.now
     c.requires.weigh c.in-FacePoint.f c.weight_over-factor.result c.quotient.result c.face_vertices-corners.result.now c.in-FacePoint.is
     c.face_vertices-corners.ensures c.weight_over-factor.ensures c.quotient.ensures in
-    on_ok_weaker c.add_corners.result (λ added. added ∙ ap (λ l. added_shares 1 l c.args.scratch.now) (sym shares)) c.add_corners.ensures
+    c.add_corners.ensures ∙ ap (λ l. added_shares 1 l c.args.scratch.now) (sym shares)

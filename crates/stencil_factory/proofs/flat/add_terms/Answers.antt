@@ -20,8 +20,8 @@ loop-rest-preserved g c =
     let before = c.loop-rest.invariant in
     record {
       weigh = weigh-next level dens faces c.args.multiple rest some before.weigh;
-      can = terms-can level dens faces c.args.multiple rest some g.T.Natural.most c.loop-rest.scratch before.can c.add_term.new.scratch c.in_ok-add_term.ensures;
-      same = terms-same level dens faces c.args.multiple rest some g.T.Natural.most c.loop-rest.scratch before.can c.add_term.new.scratch c.in_ok-add_term.ensures ∙ before.same;
+      can = terms-can level dens faces c.args.multiple rest some g.T.Natural.most c.loop-rest.scratch before.can c.add_term.new.scratch c.add_term.ensures;
+      same = terms-same level dens faces c.args.multiple rest some g.T.Natural.most c.loop-rest.scratch before.can c.add_term.new.scratch c.add_term.ensures ∙ before.same;
     }
 
 pub returns : goal.returns

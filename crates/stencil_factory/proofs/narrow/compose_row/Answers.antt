@@ -66,11 +66,11 @@ returns-clause-row g c more =
     let m_is = subst (λ dens. m ≡ within_bound (lcm_of_all (map (λ v. get_or dens v 1) (support_of (weighing raw))))) c.denominators.ensures c.multiple_of_weights-multiple.ensures in
     narrow-row (g.M.PointMasks.level c.args.masks.now) (mask_at (g.M.PointMasks.masks c.args.masks.now) c.args.row) _ c.in_ok-put.ensures raw c.weights-weights.ensures.terms table c.facts.ensures c.requires.each
     m m_is c.unwrap_or-den.result found.0 (found.1 ∙ ap (λ q. q * m) c.denominator.ensures) (omega (arith, found.2))
-    c.args.buffers.now.controls _ _ c.requires.clear c.in_ok-add_weighted_rows.ensures c.in_ok-take.ensures.entries
+    c.args.buffers.now.controls _ _ c.requires.clear c.add_weighted_rows.ensures c.in_ok-take.ensures.entries
 
 pub returns-clause-clear : goal.returns-clause-clear
 returns-clause-clear g c =
     let amounts = amounts_of (dens_of c.args.table.now) c.multiple_of_weights-multiple.result (weighing c.weights-weights.result.now) in
     c.in_ok-take.ensures.zeros
     ∙ ap (λ n. replicate n 0)
-    (ap length c.in_ok-add_weighted_rows.ensures ∙ length-added_rows c.args.table.now amounts c.args.buffers.now.controls ∙ ap length c.requires.clear ∙ length-replicate c.args.table.now.controls 0)
+    (ap length c.add_weighted_rows.ensures ∙ length-added_rows c.args.table.now amounts c.args.buffers.now.controls ∙ ap length c.requires.clear ∙ length-replicate c.args.table.now.controls 0)

@@ -7,7 +7,7 @@ use Rattle.mask_rules.specs.Masks.{corners_over}
 use Rattle.child_masks.proofs.FaceLemmas.{face-corners}
 use Rattle.stencil_factory.specs.Scratch.{added_shares}
 use Rattle.stencil_factory.specs.Flat.{CanAddAll}
-use Rattle.stencil_factory.proofs.KnownLemmas.{known-corners, flat-corners, given-can, given-weighed, ok-weaker}
+use Rattle.stencil_factory.proofs.KnownLemmas.{known-corners, flat-corners, given-can, given-weighed}
 use Rattle.stencil_factory.proofs.weigh.weigh_face.Goals as goal
 
 pub add_corners-requires-clause-within : goal.add_corners-requires-clause-within
@@ -29,13 +29,11 @@ add_corners-requires-clause-can g c =
 
 pub returns : goal.returns
 returns g c =
-    ok-weaker c.add_corners.result _ _
-    (λ added. given-weighed c.args.parent.now.level c.args.dens.now [] c.requires.dens (corners_over (polygon_at c.args.parent.now.level.polygons c.args.f) c.face_mask-mask.result.size) _ c.face_mask-mask.ensures.mask
+    given-weighed c.args.parent.now.level c.args.dens.now [] c.requires.dens (corners_over (polygon_at c.args.parent.now.level.polygons c.args.f) c.face_mask-mask.result.size) _ c.face_mask-mask.ensures.mask
     (joined-corners (polygon_at c.args.parent.now.level.polygons c.args.f))
     (known-corners c.args.parent.now.level c.args.dens.now [] c.requires.dens (polygon_at c.args.parent.now.level.polygons c.args.f)
     (recursion_from_All (λ v. v < length c.args.dens.now) (polygon_at c.args.parent.now.level.polygons c.args.f)
     (face-corners c.args.parent.now c.facts.ensures c.args.f c.requires.known c.args.dens.now c.requires.dens)))
     c.args.den c.requires.den c.requires.short (weigh_points 1 c.face_vertices.result.now) (ap (weigh_points 1) c.face_vertices.ensures)
     c.size.result c.quotient-multiple.result c.size.ensures c.quotient-multiple.ensures c.args.scratch.now c.requires.clear c.add_corners.new.scratch
-    (added ∙ ap (λ l. added_shares 1 l c.args.scratch.now) (sym (flat-corners c.args.parent.now.level c.args.dens.now [] c.quotient-multiple.result c.face_vertices.result.now))))
-    c.add_corners.ensures
+    (c.add_corners.ensures ∙ ap (λ l. added_shares 1 l c.args.scratch.now) (sym (flat-corners c.args.parent.now.level c.args.dens.now [] c.quotient-multiple.result c.face_vertices.result.now)))

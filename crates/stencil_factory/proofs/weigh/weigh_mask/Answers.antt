@@ -1,6 +1,5 @@
 use Rattle.std.proofs.Common.{ap, sym, ◌∙◌, subst}
 use Rattle.subdiv_model.specs.Refined.{mask_denominator, source_denominator}
-use Rattle.level_topology.specs.Child.{FromFace}
 use Rattle.mask_rules.specs.View.{scheme_of, terms_of}
 use Rattle.child_masks.specs.Masks.{mask_from, origin_at}
 use Rattle.child_masks.specs.View.{seen_terms}
@@ -9,8 +8,7 @@ use Rattle.child_masks.proofs.OriginLemmas.{origin-within}
 use Rattle.child_masks.proofs.MaskLemmas.{joined-from}
 use Rattle.stencil_factory.specs.Flat.{IsWeighed}
 use Rattle.stencil_factory.proofs.SurveyLemmas.{found-faces}
-use Rattle.stencil_factory.proofs.KnownLemmas.{part-weigh, part-can, part-weighed, ok-weaker}
-use Rattle.stencil_factory.proofs.OriginLemmas.{of-point}
+use Rattle.stencil_factory.proofs.KnownLemmas.{part-weigh, part-can, part-weighed}
 use Rattle.stencil_factory.proofs.weigh.weigh_mask.Goals as goal
 
 pub weigh_face-requires-clause-den : goal.weigh_face-requires-clause-den
@@ -47,8 +45,7 @@ add_terms-requires-clause-can g c =
 
 pub returns-in-Corners : goal.returns-in-Corners
 returns-in-Corners g c =
-    of-point c.weigh_face.result (λ mask. IsWeighed c.args.parent.now.level c.args.dens.now mask c.weigh_face.new.scratch)
-    c.args.parent.now.level (scheme_of c.args.scheme) (FromFace c.in-Corners.f) _ (sym c.in-Corners.ensures.0) c.weigh_face.ensures
+    subst (λ o. IsWeighed c.args.parent.now.level c.args.dens.now (mask_from c.args.parent.now.level (scheme_of c.args.scheme) o) c.weigh_face.new.scratch) (sym c.in-Corners.ensures.0) c.weigh_face.ensures
 
 pub returns-in-Terms : goal.returns-in-Terms
 returns-in-Terms g c =
@@ -59,9 +56,7 @@ returns-in-Terms g c =
     let dens = c.args.dens.now in
     let within = origin-within parent c.args.child.now scheme c.facts-2.ensures c.requires.child c.args.p c.requires.known in
     let faces = subst (AreFaceDenominators parent.level dens) (sym c.deref.ensures.value) (found-faces parent scheme origins dens c.args.survey.now c.requires.survey) in
-    ok-weaker c.add_terms.result _ _
-    (part-weighed parent c.facts.ensures scheme origin within dens c.deref.result.now c.requires.dens faces
+    part-weighed parent c.facts.ensures scheme origin within dens c.deref.result.now c.requires.dens faces
     (seen_terms c.mask.new.made c.in-Terms.mask) c.in-Terms.ensures.1 (joined-from parent.level scheme origin) c.args.den c.requires.den c.requires.short
     (terms_of c.terms.result.now) c.terms.ensures c.denominator.result c.quotient-multiple.result c.denominator.ensures c.quotient-multiple.ensures
-    c.args.scratch.now c.requires.clear c.add_terms.new.scratch)
-    c.add_terms.ensures
+    c.args.scratch.now c.requires.clear c.add_terms.new.scratch c.add_terms.ensures

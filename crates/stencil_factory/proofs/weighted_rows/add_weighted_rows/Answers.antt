@@ -28,7 +28,7 @@ loop-rest-preserved g c =
     let rest = c.loop-rest.rest.now in
     let some = c.in-len1-up.len_at_least in
     let before = c.loop-rest.invariant in
-    let added = c.in_ok-add_weighted_row.ensures in
+    let added = c.add_weighted_row.ensures in
     record {
       all = others-added table c.facts.ensures c.args.multiple rest some c.loop-rest.sums c.add_weighted_row.new.sums added ∙ before.all;
       known = others-inside rest some (length table.rows) before.known;

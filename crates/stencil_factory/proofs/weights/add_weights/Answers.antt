@@ -14,7 +14,7 @@ loop-rest-preserved g c =
     let rest = c.loop-rest.rest.now in
     let some = c.in-len1-up.len_at_least in
     let before = c.loop-rest.invariant in
-    let added = c.in_ok-add_weight.ensures in
+    let added = c.add_weight.ensures in
     record {
       all = others-same rest some c.args.dens.now c.args.multiple g.T.Natural.most c.loop-rest.scratch before.can c.add_weight.new.scratch added ∙ before.all;
       known = others-inside rest some (length c.args.dens.now) before.known;

@@ -1,5 +1,4 @@
 use Rattle.std.proofs.Common.{ap, ◌∙◌, ◌/◌}
-use Rattle.std.proofs.lemmas.Result.{on_ok_weaker}
 use Rattle.stencil_factory.specs.MaskRows.{mask_at}
 use Rattle.stencil_factory.proofs.PutLemmas.{put-inside, put-can, put-weighed}
 use Rattle.stencil_factory.proofs.point_rows.PointRowsRowMasks.weigh.Goals as goal
@@ -17,8 +16,6 @@ add_weights-requires-clause-can g c =
 
 pub returns-clause-weighed : goal.returns-clause-weighed
 returns-clause-weighed g c =
-    on_ok_weaker c.add_weights.result
-    (put-weighed (g.M.PointMasks.level c.args.self.now.masks.now) (mask_at (g.M.PointMasks.masks c.args.self.now.masks.now) c.args.row) _ c.in_ok-put.ensures
+    put-weighed (g.M.PointMasks.level c.args.self.now.masks.now) (mask_at (g.M.PointMasks.masks c.args.self.now.masks.now) c.args.row) _ c.in_ok-put.ensures
     c.weights.result.now c.weights.ensures.terms c.args.dens.now c.requires.dens c.args.den c.requires.den c.requires.short c.quotient-multiple.result
-    (c.quotient-multiple.ensures ∙ ap (λ q. c.args.den / q) c.denominator.ensures) c.args.scratch.now c.requires.zeros c.add_weights.new.scratch)
-    c.add_weights.ensures
+    (c.quotient-multiple.ensures ∙ ap (λ q. c.args.den / q) c.denominator.ensures) c.args.scratch.now c.requires.zeros c.add_weights.new.scratch c.add_weights.ensures

@@ -32,7 +32,7 @@ loop-i-preserved g c =
     let there = number-there value c.args.numerators.now c.loop-i.i c.index-numerators-i.result (omega (arith, c.requires.equal)) c.index-numerators-i.is in
     let read : g.T.Natural.value c.of-numerator.result ≡ get_or (map value c.args.numerators.now) c.loop-i.i 0 = cc (c.of-numerator.ensures, c.wide.ensures, there) in
     let added : c.add_product.new.self ≡ added_at (get_or c.args.indices.now c.loop-i.i 0) (factor * get_or (map value c.args.numerators.now) c.loop-i.i 0) c.loop-i.self =
-    c.in_ok-add_product.ensures ∙ ap (λ n. added_at (get_or c.args.indices.now c.loop-i.i 0) (factor * n) c.loop-i.self) read in
+    c.add_product.ensures ∙ ap (λ n. added_at (get_or c.args.indices.now c.loop-i.i 0) (factor * n) c.loop-i.self) read in
     record {
       sums = left-sums factor g.T.Natural.most c.args.indices.now (map value c.args.numerators.now) equal c.loop-i.i c.loop-i.self c.add_product.new.self _ c.loop-i-test.true added before.sums;
       long = ap length added ∙ length-added_at _ _ c.loop-i.self ∙ before.long;
