@@ -25,3 +25,4 @@ pub mod PutLemmas
 pub mod WeightedRowLemmas
 pub mod NarrowLemmas
 pub mod PowerLemmas
+pub mod OrderLemmas

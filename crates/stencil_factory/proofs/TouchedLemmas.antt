@@ -143,7 +143,7 @@ cleared-zeros places sums is =
     zeros-by_place (cleared places sums) (λ v. cleared-at places sums v (λ none. let named = sym (is.named v) ∙ none in grind (arith, nat_tests)))
     ∙ ap (λ n. replicate n 0) (length-cleared places sums)
 
-abbrev one : ℕ → ℕ → Share
+abbrev pub one : ℕ → ℕ → Share
 one v n = (v, n)
 
 -- the places, each with a number
@@ -162,7 +162,7 @@ same-shares place (v ∷ places) sums none =
     differ : v ≡ place → nat_eq place v ≡ false → ⊥
     differ same apart = grind (arith, nat_tests)
 
-moved-same : (places sums : List ℕ) → is_distinct places ≡ true → moved places sums ≡ shares_at (λ v. get_or sums v 0) places
+pub moved-same : (places sums : List ℕ) → is_distinct places ≡ true → moved places sums ≡ shares_at (λ v. get_or sums v 0) places
 moved-same [] sums distinct = refl
 moved-same (place ∷ places) sums distinct =
     let both = and_parts (not (is_among places place)) (is_distinct places) distinct in
@@ -174,7 +174,7 @@ moved-same (place ∷ places) sums distinct =
     was false h = refl
 
 -- an amount that is taken and added back
-added-back : (place : ℕ) (sums : List ℕ) → place < length sums → added_at place (get_or sums place 0) (set sums place 0) ≡ sums
+pub added-back : (place : ℕ) (sums : List ℕ) → place < length sums → added_at place (get_or sums place 0) (set sums place 0) ≡ sums
 added-back place [] h = absurd (omega (arith, h))
 added-back zero (sum ∷ sums) h = let all : 0 + sum ≡ sum = omega arith in ap (λ n. n ∷ sums) all
 added-back (suc place) (sum ∷ sums) h = ap (λ rest. sum ∷ rest) (added-back place sums (omega (arith, h)))
@@ -201,7 +201,7 @@ moved-support [] sums = refl
 moved-support (place ∷ places) sums = ap (λ rest. place ∷ rest) (moved-support places (set sums place 0))
 
 -- what holds of each place and its number
-each-share : (P : Share → Type 0) (at : ℕ → ℕ) (places : List ℕ) → AllByRecursion (λ v. P (v, at v)) places → AllByRecursion P (shares_at at places)
+pub each-share : (P : Share → Type 0) (at : ℕ → ℕ) (places : List ℕ) → AllByRecursion (λ v. P (v, at v)) places → AllByRecursion P (shares_at at places)
 each-share P at [] h = tt
 each-share P at (v ∷ places) h = (h.0, each-share P at places h.1)
 
@@ -358,14 +358,14 @@ sorted-touched numbers lent sorted back sums count from to same moved is = recor
 
 -- Sums that were taken, of numbers of any type that has a value. The body reads the places as `read`.
 module _ {T : Type 0} (value : T → ℕ) (numbers read : List ℕ) (of : read ≡ numbers) (count : ℕ) (sums : List T) (start : StartWithTouched numbers count (map value sums)) where
-  listed : AreTouched (take count read) (map value sums)
-  listed = subst (λ l. AreTouched (take count l) (map value sums)) (sym of) start.touched
+  pub taken-listed : AreTouched (take count read) (map value sums)
+  taken-listed = subst (λ l. AreTouched (take count l) (map value sums)) (sym of) start.touched
 
   pub taken-count : count ≡ length (take count read)
   taken-count = sym (length-take-le count read (omega (arith, ap length of, touched-few numbers count (map value sums) start)))
 
   pub taken-inside : All (λ place. place < length sums) (take count read)
-  taken-inside = subst (λ n. All (λ place. place < n) (take count read)) (length-map sums value) (touched-inside (take count read) (map value sums) listed)
+  taken-inside = subst (λ n. All (λ place. place < n) (take count read)) (length-map sums value) (touched-inside (take count read) (map value sums) taken-listed)
 
   -- After an error nothing changed.
   pub kept-touched : (left : List T) → left ≡ sums → StartWithTouched numbers count (map value left)
@@ -373,7 +373,7 @@ module _ {T : Type 0} (value : T → ℕ) (numbers read : List ℕ) (of : read �
 
   module _ (left : List T) (is : map value left ≡ cleared (take count read) (map value sums)) where
     zeros : map value left ≡ replicate (length (map value sums)) 0
-    zeros = is ∙ cleared-zeros (take count read) (map value sums) listed
+    zeros = is ∙ cleared-zeros (take count read) (map value sums) taken-listed
 
     pub taken-touched : StartWithTouched numbers 0 (map value left)
     taken-touched = untouched numbers (map value left) (length (map value sums)) start.long zeros
@@ -384,9 +384,9 @@ module _ {T : Type 0} (value : T → ℕ) (numbers read : List ℕ) (of : read �
   module _ (old : List ℕ) (view : map value sums ≡ old) (entries : List Share) (is : entries ≡ moved (take count read) (map value sums)) where
     -- the entries are the sums that were not 0
     pub taken-any : AreSharesOf old entries
-    taken-any = subst (λ l. AreSharesOf l entries) view (subst (AreSharesOf (map value sums)) (sym is) (moved-any (take count read) (map value sums) listed))
+    taken-any = subst (λ l. AreSharesOf l entries) view (subst (AreSharesOf (map value sums)) (sym is) (moved-any (take count read) (map value sums) taken-listed))
 
     -- The entries ascend if the places do.
     pub taken-sorted : IsNonDecreasing (take count numbers) → entries ≡ shares_from 0 old
     taken-sorted rise =
-        is ∙ moved-shares (take count read) (map value sums) (subst (λ l. IsNonDecreasing (take count l)) (sym of) rise) listed ∙ ap (shares_from 0) view
+        is ∙ moved-shares (take count read) (map value sums) (subst (λ l. IsNonDecreasing (take count l)) (sym of) rise) taken-listed ∙ ap (shares_from 0) view

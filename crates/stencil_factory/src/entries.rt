@@ -29,8 +29,8 @@ impl<T: Natural> Model for Entries<T> {
     ghost invariant = { λ e. length e.numerators.items ≡ length e.indices.items };
 }
 
-// Returns the sum at a place and writes 0 there.
-fn take_sum<T: Natural>(sums: &mut Vec<T>, place: u32) -> T
+///// Returns the sum at a place and writes 0 there.
+pub(crate) fn take_sum<T: Natural>(sums: &mut Vec<T>, place: u32) -> T
     requires { place < length sums.old.items }
     ensures sum { T.value result ≡ get_or (map T.value sums.old.items) place 0 }
     ensures sums { map T.value sums.new.items ≡ set (map T.value sums.old.items) place 0 }

@@ -3,15 +3,18 @@
 ghost use Rattle.std.specs.Prelude.{◌≡◌, ◌+◌, ◌*◌, ◌<◌, ◌≤◌, length, map, replicate, take, IfOk, OnOk};
 ghost use Rattle.std.specs.List.{All, zip};
 ghost use Rattle.std.specs.List.Sorted.{IsPermutation, IsNonDecreasing};
-ghost use Rattle.stencil_apply.specs.Table.{total_of};
+ghost use Rattle.stencil_apply.specs.Table.{total_of, sum_of_shares};
+ghost use Rattle.stencil_apply.specs.Means.{CanSum, word_bound};
+ghost use Rattle.ratio128.specs.Numbers.{zeros};
 ghost use Rattle.stencil_factory.specs.Scratch.{added_at, added_shares, sum_of, shares_from, AreSharesOf};
-ghost use Rattle.stencil_factory.specs.Touched.{touched_with};
+ghost use Rattle.stencil_factory.specs.Touched.{touched_with, moved, cleared};
 
-use crate::entries::Entries;
+use crate::entries::{Entries, take_sum};
 use number_width::Natural;
-use ratio128::Memory;
+use ratio128::{Memory, Primvar, Steps};
 use std::alloc::Global;
 use std::marker::Model;
+use std::sync::ledger::Ledger;
 
 /// A sum for each place. The first `count` numbers of `touched` are the places whose sum is not 0.
 ///
@@ -65,6 +68,31 @@ fn zeros<T: Natural>(alloc: Global, count: u32) -> Result<Vec<T>, Memory>
         zeros.push_reserved(T::of(0));
     }
     Ok(zeros)
+}
+
+// Returns the sum of the numbers of the places' controls, each times the place's sum, in 64 bits. Each place is one step. The sums of
+// these places become 0.
+fn sum_places<T: Natural, P: Primvar<L>, L: Ledger>(
+    places: &[u32],
+    sums: &mut Vec<T>,
+    controls: &[P],
+    like: &P,
+    steps: &mut Steps<L>,
+) -> P
+    requires inside { All (λ place. place < length sums.old.items) places.now }
+    requires fits { CanSum word_bound (moved places.now (map T.value sums.old.items)) (map P.numbers controls.now) }
+    requires same_length { All (λ control. length (P.numbers control) ≡ length (P.numbers like.now)) controls.now }
+    ensures sum { P.numbers result ≡ sum_of_shares (zeros (P.numbers like.now)) (map P.numbers controls.now) (moved places.now (map T.value sums.old.items)) }
+    ensures sums { map T.value sums.new.items ≡ cleared places.now (map T.value sums.old.items) }
+    ensures steps { steps.new ≡ steps.old + length places.now }
+{
+    let mut sum = like.cleared();
+    for at in 0..places.len() {
+        let control = &controls[places[at] as usize];
+        let number = take_sum(sums, places[at]);
+        sum.add_narrow(number.wide() as u64, control, steps);
+    }
+    sum
 }
 
 impl<T: Natural> Scratch<T> {
@@ -136,5 +164,25 @@ impl<T: Natural> Scratch<T> {
         entries.replace(&self.touched[..self.count], &mut self.sums)?;
         self.count = 0;
         Ok(())
+    }
+
+    /// Returns the sum of the numbers of the touched places' controls, each times the place's sum, in 64 bits. Each place is one step.
+    /// All sums become 0.
+    pub(crate) fn take_sum<P: Primvar<L>, L: Ledger>(
+        &mut self,
+        controls: &[P],
+        like: &P,
+        steps: &mut Steps<L>,
+    ) -> P
+        requires fits { CanSum word_bound (shares_from 0 self.old) (map P.numbers controls.now) }
+        requires same_length { All (λ control. length (P.numbers control) ≡ length (P.numbers like.now)) controls.now }
+        ensures sum { P.numbers result ≡ sum_of_shares (zeros (P.numbers like.now)) (map P.numbers controls.now) (shares_from 0 self.old) }
+        ensures zeros { self.new ≡ replicate (length self.old) 0 }
+        ensures steps { steps.new ≡ steps.old + length (shares_from 0 self.old) }
+    {
+        let places = &self.touched[..self.count];
+        let sum = sum_places(places, &mut self.sums, controls, like, steps);
+        self.count = 0;
+        sum
     }
 }
