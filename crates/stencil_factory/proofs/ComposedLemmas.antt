@@ -64,7 +64,7 @@ module _ (level : Level) (table : Table) where
   rows-more (m ∷ masks) [] mask row are is = absurd are
   rows-more (m ∷ masks) (r ∷ rows) mask row are is = (are.0, rows-more masks rows mask row are.1 is)
 
-  rows-count : (masks : List Mask) (rows : List Row) → AreComposedRows level table masks rows → length rows ≡ length masks
+  pub rows-count : (masks : List Mask) (rows : List Row) → AreComposedRows level table masks rows → length rows ≡ length masks
   rows-count [] [] are = refl
   rows-count [] (r ∷ rows) are = absurd are
   rows-count (m ∷ masks) [] are = absurd are
@@ -87,7 +87,7 @@ module _ (level : Level) (table : Table) where
       ap (λ list. list ∷ map (λ (row : Row). support_of row.shares) rows) are.0.support ∙ ap (λ rest. support m ∷ rest) (rows-supports masks rows are.1)
 
   -- the entries of the rows are the controls of the masks
-  rows-entries : (masks : List Mask) (rows : List Row) → AreComposedRows level table masks rows → entries_of rows ≡ sum_by length (map support masks)
+  pub rows-entries : (masks : List Mask) (rows : List Row) → AreComposedRows level table masks rows → entries_of rows ≡ sum_by length (map support masks)
   rows-entries masks rows are = each rows ∙ ap (sum_by length) (rows-supports masks rows are)
     where
       each : (rows : List Row) → entries_of rows ≡ sum_by length (map (λ row. support_of row.shares) rows)
@@ -96,7 +96,7 @@ module _ (level : Level) (table : Table) where
           omega (arith, sum_by-cons (λ (row : Row). length row.shares) r rows, sum_by-cons length (support_of r.shares) (map (λ (row : Row). support_of row.shares) rows), length-map r.shares (λ (share : Share). share.0), each rows)
 
   -- There are at least as many entries as rows.
-  rows-few : (masks : List Mask) (rows : List Row) → AreComposedRows level table masks rows → length rows ≤ entries_of rows
+  pub rows-few : (masks : List Mask) (rows : List Row) → AreComposedRows level table masks rows → length rows ≤ entries_of rows
   rows-few [] [] are = omega arith
   rows-few [] (r ∷ rows) are = absurd are
   rows-few (m ∷ masks) [] are = absurd are

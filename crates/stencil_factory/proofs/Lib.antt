@@ -24,5 +24,6 @@ pub mod FoundLemmas
 pub mod PutLemmas
 pub mod WeightedRowLemmas
 pub mod NarrowLemmas
+pub mod MaskValueLemmas
 pub mod PowerLemmas
 pub mod OrderLemmas

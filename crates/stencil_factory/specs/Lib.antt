@@ -10,4 +10,5 @@ pub mod PlaceSet
 pub mod Powers
 pub mod Named
 pub mod MaskRows
+pub mod MaskValues
 pub mod Joined

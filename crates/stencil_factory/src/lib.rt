@@ -2,6 +2,7 @@
 //!
 //! A new table has the control points of the given table. A row gives its common denominator, then the control points it depends
 //! on, ascending, each with its numerator above 0. A table has at most 2^27 entries. Points and rows are counted from 0.
+//! [`evaluate_masks`] gives the values of the rows of masks without their table.
 //!
 //! Source: stencil tables of OpenSubdiv's Far layer, with exact weights.
 #![tactic(auto)]
@@ -11,6 +12,7 @@ mod compose;
 mod controls;
 mod count;
 mod entries;
+mod evaluate;
 mod fault;
 mod flat;
 mod mask_table;
@@ -28,6 +30,7 @@ mod weighted_rows;
 mod weights;
 
 pub use controls::identity;
+pub use evaluate::evaluate_masks;
 pub use fault::TableFault;
 pub use mask_table::compose_masks;
 pub use point_masks::{PointMasks, PointWeights};

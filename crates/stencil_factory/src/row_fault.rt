@@ -1,8 +1,8 @@
-//! The faults of `compose_masks`.
+//! The faults of `compose_masks` and `evaluate_masks`.
 
 use ratio128::Memory;
 
-/// The fault that kept [`compose_masks`](crate::compose_masks) from a table.
+/// The fault that kept [`compose_masks`](crate::compose_masks) from a table, or [`evaluate_masks`](crate::evaluate_masks) from the values.
 ///
 /// A later variant is only reported if no row has an earlier fault. `Memory` can occur at any time.
 #[derive(Clone, Copy, Debug, PartialEq, Eq)]

@@ -166,6 +166,13 @@ impl<T: Natural> Scratch<T> {
         Ok(())
     }
 
+    /// Returns the number of sums that are not 0.
+    pub(crate) fn count(&self) -> usize
+        ensures { result ≡ length (shares_from 0 self.now) }
+    {
+        self.count
+    }
+
     /// Returns the sum of the numbers of the touched places' controls, each times the place's sum, in 64 bits. Each place is one step.
     /// All sums become 0.
     pub(crate) fn take_sum<P: Primvar<L>, L: Ledger>(
