@@ -15,7 +15,7 @@ use Rattle.subdiv_model.specs.Mask.{SourcePoint, OfPoint, OfFace, Term, Mask, ma
 use Rattle.subdiv_model.specs.Multiples.{lcm_of_all}
 use Rattle.subdiv_model.specs.Refined.{mask_denominator, source_denominator}
 use Rattle.subdiv_model.specs.Limit.{limit_of_rule, limit_mask, limit_masks, mask_or_itself, opposites_at, has_semi_sharp, lasting_rule}
-use Rattle.number_laws.proofs.MultipleLemmas.{each-divides, least-of-all}
+use Rattle.number_laws.proofs.MultipleLemmas.{each-divides, least-of-all, product-positive}
 use Rattle.mask_laws.proofs.ListLemmas.{all-append}
 use Rattle.mask_laws.proofs.SourceLemmas.{are_from, from-mask_of, from-points}
 use Rattle.child_masks.specs.Survey.{within_bound}
@@ -47,10 +47,12 @@ module _ (v most : ℕ) (ends opposites : List ℕ) (smooth : length ends * (len
   corner-within = (omega (arith, crease), from-mask_of is_point (weigh 1 (OfPoint v) ∷ []) 1 refl)
 
   smooth-within : IsWithin most (mask_of (weigh (length ends * length ends) (OfPoint v) ∷ (weigh_points 4 ends ++ weigh_points 1 opposites)) (length ends * (length ends + 5)))
-  smooth-within =
-      (smooth, from-mask_of is_point (weigh (length ends * length ends) (OfPoint v) ∷ (weigh_points 4 ends ++ weigh_points 1 opposites)) (length ends * (length ends + 5))
-      (all-append (λ t. is_point t.source) (weigh_points 4 ends) (weigh_points 1 opposites)
-      (from-points is_point 4 ends (all-points ends)) (from-points is_point 1 opposites (all-points opposites))))
+  smooth-within = (
+    smooth,
+    from-mask_of is_point (weigh (length ends * length ends) (OfPoint v) ∷ (weigh_points 4 ends ++ weigh_points 1 opposites)) (length ends * (length ends + 5))
+        (all-append (λ t. is_point t.source) (weigh_points 4 ends) (weigh_points 1 opposites)
+        (from-points is_point 4 ends (all-points ends)) (from-points is_point 1 opposites (all-points opposites))),
+  )
 
   rule-within : (semi : Bool) (rule : Rule) → IsWithin most (mask_or_itself v (limit_of_rule v ends opposites semi rule))
   rule-within true SmoothRule = corner-within
@@ -132,15 +134,16 @@ dens-limited level table common most is each some lcm short k d inside =
     (mask-limited level dens (point-dens table level is each).positive common some multiple (limit_mask level k) most (short k there) (points-only level k))
 
 -- the product, if it is at most 2^63 - 1
-pub bound-found : (level : Level) (table : Table) (dens : List ℕ) (common most : ℕ) (r : Option ℕ) → IsTable table → length table.rows ≡ level.point_count
+pub bound-found : (level : Level) (table : Table) (dens : List ℕ) (common most : ℕ) (r : Option ℕ) → 0 < most → IsTable table → length table.rows ≡ level.point_count
     → dens ≡ dens_of table → (common ≡ 0 → ⊥) → common ≡ within_bound (lcm_of_all dens)
     → ((v : ℕ) → v < level.point_count → (limit_mask level v).denominator ≤ most) → IfSome r (λ product. product ≡ most * common) → IfSome r (λ product. product ≤ word_bound)
     → IfSome r (IsDenominatorBound level table)
-bound-found level table dens common most None is each same other lcm short made word = tt
-bound-found level table dens common most (Some product) is each same other lcm short made word =
+bound-found level table dens common most None above-zero is each same other lcm short made word = tt
+bound-found level table dens common most (Some product) above-zero is each same other lcm short made word =
     let some : 0 < common = above common other in
     let exact : common ≡ lcm_of_all (dens_of table) = within-some common (lcm_of_all dens) some lcm ∙ ap lcm_of_all same in
     record {
+      some = subst (λ n. 0 < n) (sym made) (product-positive most common above-zero some);
       short = word;
       dens = subst (λ n. All (λ den. den ≤ n) (mask_dens level table (limit_masks level))) (sym made) (dens-limited level table common most is each some exact short);
     }

@@ -1,9 +1,9 @@
 -- The points of a level on which nothing is sharp.
-use Rattle.std.proofs.Common.{◌≡◌, ℕ, suc, ◌<◌, Bool, true, false, cond, ◌||◌, nat_eq, if◌then◌else◌, List, [], ◌∷◌, length, map, get_or, Result, OnOk, IsTrue, arith, refl, ap, sym, subst, ◌∙◌}
+use Rattle.std.proofs.Common.{◌≡◌, ℕ, suc, ◌<◌, true, false, cond, ◌||◌, nat_eq, if◌then◌else◌, List, [], ◌∷◌, length, map, get_or, Result, OnOk, IsTrue, arith, refl, ap, sym, subst, ◌∙◌}
 use Rattle.std.specs.List.{filter, list_any}
 use Rattle.std.proofs.lemmas.Bool.Decides.{nat_tests}
 use Rattle.subdiv_model.specs.Sharpness.{Sharpness, Smooth, is_semi_sharp}
-use Rattle.subdiv_model.specs.Level.{Level, vertex_sharpness_of}
+use Rattle.subdiv_model.specs.Level.{Level}
 use Rattle.subdiv_model.specs.Feature.{is_infinite}
 use Rattle.subdiv_model.specs.Mask.{Mask}
 use Rattle.subdiv_model.specs.Limit.{has_quads, limit_of, cause_of_limit}

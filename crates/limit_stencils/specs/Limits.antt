@@ -1,6 +1,6 @@
 -- The table of the limit points of a level, and its faults.
 -- Source: this profile.
-use Rattle.std.specs.Prelude.{ℕ, ◌≡◌, ◌≢◌, ◌<◌, ◌≤◌, Bool, true, IsTrue, Some, List, [], length, Result, MatchResult}
+use Rattle.std.specs.Prelude.{ℕ, ℤ, ◌≡◌, ◌≢◌, ◌<◌, ◌≤◌, Bool, true, IsTrue, Some, List, [], length, Result, MatchResult}
 use Rattle.std.specs.List.{All}
 use Rattle.subdiv_model.specs.Lists.{first_of}
 use Rattle.subdiv_model.specs.Polygons.{Polygon, polygon_at}
@@ -14,6 +14,7 @@ use Rattle.child_masks.specs.Masks.{IsFirstDenominator}
 use Rattle.stencil_apply.specs.Table.{Table}
 use Rattle.stencil_apply.specs.Means.{word_bound}
 use Rattle.stencil_factory.specs.MaskRows.{AreMaskRows, mask_dens, mask_entries}
+use Rattle.stencil_factory.specs.MaskValues.{AreMaskValues}
 use Rattle.limit_stencils.specs.Smooth.{IsSmooth}
 use Rattle.limit_stencils.specs.declared.fault.LimitFault.{LimitFault}
 use Rattle.limit_stencils.specs.declared.fault.LimitFault.TheVariants as limit
@@ -37,10 +38,16 @@ pub record IsLimitTable (level : Level) (table limits : Table) : Type 0 where
   pub fine : limit_causes level ≡ []
   pub rows : AreMaskRows level (limit_masks level) table limits
 
--- a number of at most 2^63 - 1 that the common denominator of no limit point passes
+-- a number from 1 to 2^63 - 1 that the common denominator of no limit point passes
 pub record IsDenominatorBound (level : Level) (table : Table) (bound : ℕ) : Type 0 where
+  pub some : 0 < bound
   pub short : bound ≤ word_bound
   pub dens : All (λ den. den ≤ bound) (mask_dens level table (limit_masks level))
+
+-- each point has a limit mask, and these are the limit points over the controls
+pub record AreLimitPoints (level : Level) (table : Table) (controls : List (List ℤ)) (points : List (List ℤ × ℕ)) : Type 0 where
+  pub fine : limit_causes level ≡ []
+  pub values : AreMaskValues level (limit_masks level) table controls points
 
 -- the least polygon that does not have four corners
 pub record IsFirstOther (polygons : List Polygon) (face : ℕ) : Type 0 where

@@ -41,15 +41,16 @@ fn greatest_valence(level: &Level) -> u32
     greatest
 }
 
-// Returns a number that the denominator of no limit mask of the level passes.
+// Returns a number above 0 that the denominator of no limit mask of the level passes.
 fn mask_bound(level: &Level) -> u128
-    ensures { (v : ℕ) → v < level.now.level.point_count → (limit_mask level.now.level v).denominator ≤ result }
+    ensures some { 0 < result }
+    ensures each { (v : ℕ) → v < level.now.level.point_count → (limit_mask level.now.level v).denominator ≤ result }
 {
     let valence = u128::from(greatest_valence(level));
     (valence * (valence + 5)).max(6)
 }
 
-/// Returns a number of at most 2^63 - 1 that the common denominator of no limit point of the level passes. Returns `None` if this call
+/// Returns a number from 1 to 2^63 - 1 that the common denominator of no limit point of the level passes. Returns `None` if this call
 /// finds none. The call takes no memory.
 ///
 /// `table` has a row for each point of the level. The number is the greatest denominator of a limit mask, times the least common multiple

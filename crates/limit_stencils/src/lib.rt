@@ -10,6 +10,7 @@ mod cause;
 mod fault;
 mod lasting;
 mod masks;
+mod points;
 mod quads;
 mod semi;
 mod smooth;
@@ -18,4 +19,5 @@ mod weigh;
 
 pub use bound::denominator_bound;
 pub use fault::{LimitFault, QuadFault};
+pub use points::limit_points_of_quads;
 pub use table::{limit_table, limit_table_of_quads};

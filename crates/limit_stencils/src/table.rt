@@ -16,8 +16,8 @@ use std::alloc::Global;
 use stencil_apply::StencilTable;
 use stencil_factory::{RowFault, compose_masks};
 
-// Returns the fault of the limit table for a fault of its rows.
-fn quad_fault(fault: RowFault) -> QuadFault
+/// Returns the fault of the limit table for a fault of its rows.
+pub(crate) fn quad_fault(fault: RowFault) -> QuadFault
     ensures { (level : model.Level) (table : Table) → HasLimits level → IsRowFault level (limit_masks level) table fault → IsQuadFault level table result }
 {
     match fault {

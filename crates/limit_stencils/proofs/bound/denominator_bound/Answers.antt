@@ -15,5 +15,5 @@ multiple_of-multiple-requires-clause-short c =
 
 pub returns : goal.returns
 returns c =
-    bound-found c.args.level.now.level c.args.table.now c.denominators.result.now _ _ c.times_within.result c.facts.ensures c.requires c.denominators.ensures c.if-multiple-eq0.false
-    c.multiple_of-multiple.ensures c.mask_bound.ensures c.times_within.ensures.product c.times_within.ensures.within
+    bound-found c.args.level.now.level c.args.table.now c.denominators.result.now _ _ c.times_within.result c.mask_bound.ensures.some c.facts.ensures c.requires c.denominators.ensures c.if-multiple-eq0.false
+    c.multiple_of-multiple.ensures c.mask_bound.ensures.each c.times_within.ensures.product c.times_within.ensures.within

@@ -1,4 +1,4 @@
-use Rattle.std.proofs.Common.{◌≡◌, ℕ, ◌<◌}
+use Rattle.std.proofs.Common.{ℕ, ◌<◌}
 use Rattle.limit_stencils.specs.Smooth.{IsSmoothAt}
 use Rattle.limit_stencils.proofs.smooth.is_smooth.Given as goal
 
