@@ -1,4 +1,4 @@
-//! Tests the program: its words, and streams that fail in the middle of a run.
+//! Tests the program: its words, runs over slices, and streams that fail in the middle of a run.
 #![tactic(auto)]
 
 #[cfg(test)]
@@ -7,6 +7,8 @@ mod engine;
 mod expect;
 #[cfg(test)]
 mod hostile;
+#[cfg(test)]
+mod in_memory;
 #[cfg(test)]
 mod inputs;
 #[cfg(test)]

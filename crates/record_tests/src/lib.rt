@@ -1,9 +1,7 @@
-//! Tests fault records, streams over slices, and whole runs over slices.
+//! Tests fault records, and streams over slices.
 #![tactic(auto)]
 
 #[cfg(test)]
 mod fault_records;
-#[cfg(test)]
-mod in_memory;
 #[cfg(test)]
 mod streams;
