@@ -20,6 +20,7 @@ pub mod PointTableLemmas
 pub mod MaskPointLemmas
 pub mod LimitLemmas
 pub mod LimitPointLemmas
+pub mod ShortLimitLemmas
 pub mod PatchLemmas
 pub mod PatchPointLemmas
 pub mod SparseTextureLemmas

@@ -50,7 +50,7 @@ module _ (mesh : ObjMesh) (depth : ℕ) (composed : ComposedChannel) (is : IsCom
   dens-are : mask_dens last composed.table masks ≡ denominators_of_masks channel depth masks
   dens-are = ap (λ dens. map (mask_denominator (source_denominator last dens)) masks) is.composed.dens
 
-  entries-are : mask_entries last composed.table masks ≡ entries_of_masks channel depth masks
+  pub entries-are : mask_entries last composed.table masks ≡ entries_of_masks channel depth masks
   entries-are =
       ap (λ controls. sum_by length (map (mask_support controls (source_support controls last (supports_of composed.table))) masks)) is.composed.controls
       ∙ ap (λ supports. sum_by length (map (mask_support channel.base.point_count (source_support channel.base.point_count last supports)) masks)) is.composed.supports

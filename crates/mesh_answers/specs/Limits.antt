@@ -1,5 +1,5 @@
 -- The limit points of a mesh at a depth.
-use Rattle.std.specs.Prelude.{ℕ, ◌≡◌, false, Option, None, Result, MatchResult, Vec}
+use Rattle.std.specs.Prelude.{ℕ, ◌≡◌, ◌*◌, ◌≤◌, false, max, Option, None, Result, MatchResult, Vec}
 use Rattle.std.specs.Global.{Global}
 use Rattle.subdiv_model.specs.Base.{base_level}
 use Rattle.subdiv_model.specs.Child.{refined_level}
@@ -8,6 +8,8 @@ use Rattle.subdiv_model.specs.Fault as model
 use Rattle.subdiv_model.specs.Fault.{Fault, Limit, TooLarge, LimitEntries, Overflow, LimitRows, DenominatorOverflow}
 use Rattle.subdiv_model.specs.Limit.{limit_faults, limit_masks}
 use Rattle.far_model.specs.Answer.{positions_of}
+use Rattle.stencil_apply.specs.Means.{word_bound}
+use Rattle.limit_stencils.specs.Limits.{IsDenominatorBound}
 use Rattle.limit_stencils.specs.declared.fault.QuadFault.{QuadFault}
 use Rattle.limit_stencils.specs.declared.fault.QuadFault.TheVariants.{Dart, SemiSharp, Denominator, TooManyEntries, Memory}
 use Rattle.channel_refine.specs.declared.compose.ComposedChannel.{ComposedChannel}
@@ -42,6 +44,13 @@ pub record AreLimitRows (mesh : ObjMesh) (depth : ℕ) (limits : ComposedChannel
 -- the level with this table, or the refusal of the mesh
 abbrev pub IsLimitComposition : ObjMesh → ℕ → Result ComposedChannel FarFault → Type 0
 IsLimitComposition mesh depth result = MatchResult result (AreLimitRows mesh depth) (λ fault. IsFound (fault_of fault) (limit_refusal depth mesh))
+
+-- The level's limit points fit 64 bits: no common denominator of one passes this number, and its product with the greatest amount of the
+-- mesh's points, or with their common denominator, is at most 2^63 - 1.
+pub record HasShortLimits (mesh : ObjMesh) (composed : ComposedChannel) : Type 0 where
+  pub bound : ℕ
+  pub is : IsDenominatorBound composed.level.level composed.table bound
+  pub fits : bound * max (positions_of mesh).greatest (positions_of mesh).common ≤ word_bound
 
 -- the reply with a level of a mesh and its limit points
 abbrev pub limit_reply : ObjMesh → Option ℕ → Topology → Vec (Valued Point3) Global → Reply
