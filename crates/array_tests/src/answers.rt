@@ -11,7 +11,7 @@ use table_arrays::TableCounts;
 
 // The counts of the cube's level after a step, and those of its table.
 fn refined_counts(alloc: Global) -> Result<(LevelCounts, TableCounts), FaultRecord> {
-    let refined = refine_arrays(alloc, &cube(), 1)?;
+    let refined = refine_arrays(alloc, cube(), 1)?;
     Ok((
         level_arrays::counts_of(&refined.composed.level),
         table_arrays::counts_of(&refined.composed.table),
@@ -75,7 +75,7 @@ fn faces_and_edges_stand_in_their_order(rt: HostRuntime) {
 
 // A point of the cube after a step.
 fn refined_point(alloc: Global, point: usize) -> Result<Option<Valued<Point3>>, FaultRecord> {
-    let refined = refine_points(alloc, &cube(), 1)?;
+    let refined = refine_points(alloc, cube(), 1)?;
     Ok(refined.points.get(point).copied())
 }
 

@@ -53,7 +53,7 @@ const CUBE_POINTS: &[WidePoint] = &[
     },
 ];
 
-const CUBE_SIZES: &[u32] = &[4; 6];
+const CUBE_SIZES: &[u32] = &[4, 4, 4, 4, 4, 4];
 
 const CUBE_CORNERS: &[u32] = &[
     0, 1, 3, 2, 2, 3, 5, 4, 4, 5, 7, 6, 6, 7, 1, 0, 1, 7, 5, 3, 6, 0, 2, 4,
@@ -84,42 +84,50 @@ const TRIANGLE_POINTS: &[WidePoint] = &[
     },
 ];
 
-const TRIANGLE_SIZES: &[u32] = &[3];
-
-const TRIANGLE_CORNERS: &[u32] = &[0, 1, 2];
-
 // A mesh without tags and texture, over the denominator 1.
-fn untagged(
-    points: &'static [WidePoint],
-    face_sizes: &'static [u32],
-    corners: &'static [u32],
-) -> MeshArrays<'static> {
-    MeshArrays {
-        points,
-        scale: ONE,
-        texture: &[],
-        texture_scale: ONE,
-        face_sizes,
-        corners,
-        texture_corners: &[],
-        creases: &[],
-        corner_tags: &[],
-        holes: &[],
-        boundary: 2,
-        method: 0,
-    }
+macro_rules! untagged {
+    ($points:ident, $sizes:expr, $corners:expr) => {
+        MeshArrays {
+            points: $points,
+            scale: ONE,
+            texture: &[],
+            texture_scale: ONE,
+            face_sizes: $sizes,
+            corners: $corners,
+            texture_corners: &[],
+            creases: &[],
+            corner_tags: &[],
+            holes: &[],
+            boundary: 2,
+            method: 0,
+        }
+    };
 }
 
 // A cube from -1 to 1.
-pub(crate) fn cube() -> MeshArrays<'static> {
-    untagged(CUBE_POINTS, CUBE_SIZES, CUBE_CORNERS)
+const CUBE: &MeshArrays<'static> = &untagged!(CUBE_POINTS, CUBE_SIZES, CUBE_CORNERS);
+
+pub(crate) fn cube() -> &'static MeshArrays<'static> {
+    CUBE
 }
 
-pub(crate) fn triangle() -> MeshArrays<'static> {
-    untagged(TRIANGLE_POINTS, TRIANGLE_SIZES, TRIANGLE_CORNERS)
+const TRIANGLE: &MeshArrays<'static> = &untagged!(TRIANGLE_POINTS, &[3], &[0, 1, 2]);
+
+pub(crate) fn triangle() -> &'static MeshArrays<'static> {
+    TRIANGLE
+}
+
+const TEN_POINTS: &MeshArrays<'static> = &untagged!(POINTS, &[], &[]);
+
+fn ten_points() -> &'static MeshArrays<'static> {
+    TEN_POINTS
 }
 
 // Faces over ten points.
-pub(crate) fn faces(sizes: &'static [u32], corners: &'static [u32]) -> MeshArrays<'static> {
-    untagged(POINTS, sizes, corners)
+pub(crate) fn faces(face_sizes: &'static [u32], corners: &'static [u32]) -> MeshArrays<'static> {
+    MeshArrays {
+        face_sizes,
+        corners,
+        ..*ten_points()
+    }
 }

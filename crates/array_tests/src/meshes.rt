@@ -59,21 +59,24 @@ const CORNER_TAGS: &[SharpPoint] = &[SharpPoint {
 
 const HOLES: &[u32] = &[0];
 
-fn tagged_triangle() -> MeshArrays<'static> {
-    MeshArrays {
-        points: POINTS,
-        scale: TWO,
-        texture: TEXTURE,
-        texture_scale: ONE,
-        face_sizes: FACE_SIZES,
-        corners: CORNERS,
-        texture_corners: TEXTURE_CORNERS,
-        creases: CREASES,
-        corner_tags: CORNER_TAGS,
-        holes: HOLES,
-        boundary: 2,
-        method: 1,
-    }
+// A triangle with a crease, a sharp corner, holes, and texture over 1.
+const TAGGED_TRIANGLE: &MeshArrays<'static> = &MeshArrays {
+    points: POINTS,
+    scale: TWO,
+    texture: TEXTURE,
+    texture_scale: ONE,
+    face_sizes: FACE_SIZES,
+    corners: CORNERS,
+    texture_corners: TEXTURE_CORNERS,
+    creases: CREASES,
+    corner_tags: CORNER_TAGS,
+    holes: HOLES,
+    boundary: 2,
+    method: 1,
+};
+
+fn tagged_triangle() -> &'static MeshArrays<'static> {
+    TAGGED_TRIANGLE
 }
 
 // Writes the triangle into other arrays if they are long enough. Returns its counts and options, and whether they are.
@@ -81,7 +84,7 @@ fn put_triangle(
     alloc: Global,
     places: &mut MeshPlaces,
 ) -> Result<(MeshCounts, MeshOptions, bool), ArraysFault> {
-    let mesh = mesh_of_arrays(alloc, &tagged_triangle())?;
+    let mesh = mesh_of_arrays(alloc, tagged_triangle())?;
     let counts = counts_of(&mesh);
     let fits = are_long_enough(&counts, places);
     if fits {
@@ -197,7 +200,7 @@ const BAD_CREASES: &[SharpEdge] = &[SharpEdge {
 fn the_first_fault_comes_with_its_place(rt: HostRuntime) {
     let hole = MeshArrays {
         holes: BAD_HOLES,
-        ..tagged_triangle()
+        ..*tagged_triangle()
     };
     let corner = MeshArrays {
         corner_tags: BAD_CORNER_TAGS,

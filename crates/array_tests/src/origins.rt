@@ -11,7 +11,7 @@ fn put_triangle(
     alloc: Global,
     places: &mut OriginPlaces,
 ) -> Result<(bool, OriginCounts), FaultRecord> {
-    let origins = origins_of_arrays(alloc, &triangle(), 2)?;
+    let origins = origins_of_arrays(alloc, triangle(), 2)?;
     Ok((put_origins(&origins, places), counts_of(&origins)))
 }
 

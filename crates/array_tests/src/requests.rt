@@ -37,17 +37,25 @@ const TEXTURE: &[WideValue] = &[
     WideValue { u: N2, v: N4 },
 ];
 
+fn texture() -> &'static [WideValue] {
+    TEXTURE
+}
+
 const TEXTURE_CORNERS: &[u32] = &[
     3, 4, 8, 7, 7, 8, 11, 10, 10, 11, 13, 12, 0, 1, 4, 3, 4, 5, 9, 8, 2, 3, 7, 6,
 ];
 
+fn texture_corners() -> &'static [u32] {
+    TEXTURE_CORNERS
+}
+
 // A cube whose faces are unfolded into a cross, over 4.
 fn unfolded_cube() -> MeshArrays<'static> {
     MeshArrays {
-        texture: TEXTURE,
+        texture: texture(),
         texture_scale: N4,
-        texture_corners: TEXTURE_CORNERS,
-        ..cube()
+        texture_corners: texture_corners(),
+        ..*cube()
     }
 }
 

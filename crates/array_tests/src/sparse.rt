@@ -20,7 +20,7 @@ fn put_triangle(
         depth: 1,
         select: 1,
     };
-    let sparse = sparse_of_arrays(alloc, &triangle(), &request)?;
+    let sparse = sparse_of_arrays(alloc, triangle(), &request)?;
     let counts = counts_of(&sparse.levels);
     Ok((put_sparse(&sparse.levels, sparse.common, places), counts))
 }

@@ -133,7 +133,7 @@ const IDENTITY: &str =
 #[test]
 fn the_text_of_a_cube_is_its_own(rt: HostRuntime) {
     assert_eq!(rt;
-        check_stored(rt.alloc(), &cube(), 0, IDENTITY.as_bytes()),
+        check_stored(rt.alloc(), cube(), 0, IDENTITY.as_bytes()),
         Ok(8)
     );
 }
