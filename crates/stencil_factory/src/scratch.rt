@@ -7,7 +7,7 @@ ghost use Rattle.stencil_apply.specs.Table.{total_of, sum_of_shares};
 ghost use Rattle.stencil_apply.specs.Means.{CanSum, word_bound};
 ghost use Rattle.ratio128.specs.Numbers.{zeros};
 ghost use Rattle.stencil_factory.specs.Scratch.{added_at, added_shares, sum_of, shares_from, AreSharesOf};
-ghost use Rattle.stencil_factory.specs.Touched.{touched_with, moved, cleared};
+ghost use Rattle.stencil_factory.specs.Touched.{StartWithTouched, touched_with, moved, cleared};
 
 use crate::entries::{Entries, take_sum};
 use number_width::Natural;
@@ -40,13 +40,43 @@ impl<T: Natural> Model for Scratch<T> {
 
 // Writes a place behind the first `count` numbers. Returns how many numbers count now: one more if the place's sum was 0.
 #[inline(always)]
-fn touch(touched: &mut Vec<u32>, count: usize, place: u32, sum: u128) -> usize
-    requires { count < length touched.old.items }
-    ensures len { length touched.new.items ≡ length touched.old.items }
-    ensures noted { take result touched.new.items ≡ touched_with place sum (take count touched.old.items) }
+fn touch(touched: &mut [u32], count: usize, place: u32, sum: u128) -> usize
+    requires { count < length touched.old }
+    ensures len { length touched.new ≡ length touched.old }
+    ensures noted { take result touched.new ≡ touched_with place sum (take count touched.old) }
 {
     touched[count] = place;
     count + usize::from(sum == 0)
+}
+
+// Two numbers whose product is added.
+struct Product<T: Natural> {
+    factor: T,
+    other: T,
+}
+
+// Adds a product above 0 at a place. All sums together stay within the width of `T`. The first `count` numbers of `touched` are the places
+// whose sum is not 0. Returns how many numbers count now.
+#[inline(always)]
+fn add_product<T: Natural>(
+    sums: &mut [T],
+    touched: &mut [u32],
+    count: usize,
+    place: u32,
+    product: Product<T>,
+) -> usize
+    requires touched { StartWithTouched touched.old count (map T.value sums.old) }
+    requires inside { place < length sums.old }
+    requires some { 0 < T.value product.factor * T.value product.other }
+    requires fits { sum_of (map T.value sums.old) + T.value product.factor * T.value product.other ≤ T.most }
+    ensures touched { StartWithTouched touched.new result (map T.value sums.new) }
+    ensures sums { map T.value sums.new ≡ added_at place (T.value product.factor * T.value product.other) (map T.value sums.old) }
+{
+    let Product { factor, other } = product;
+    let at = place as usize;
+    let sum = sums[at];
+    sums[at] = sum.plus_product(factor, other);
+    touch(touched, count, place, sum.wide())
 }
 
 // Sorts the first `count` numbers.
@@ -107,19 +137,6 @@ impl<T: Natural> Scratch<T> {
         })
     }
 
-    // Adds a product above 0 at a place. All sums together stay within the width of `T`.
-    fn add_product(&mut self, place: u32, factor: T, other: T)
-        requires inside { place < length self.old }
-        requires some { 0 < T.value factor * T.value other }
-        requires fits { sum_of self.old + T.value factor * T.value other ≤ T.most }
-        ensures { self.new ≡ added_at place (T.value factor * T.value other) self.old }
-    {
-        let at = place as usize;
-        let sum = self.sums[at];
-        self.count = touch(&mut self.touched, self.count, place, sum.wide());
-        self.sums[at] = sum.plus_product(factor, other);
-    }
-
     /// Adds an amount above 0 at a place. All sums together stay within the width of `T`.
     pub(crate) fn add(&mut self, place: u32, amount: T)
         requires inside { place < length self.old }
@@ -127,7 +144,17 @@ impl<T: Natural> Scratch<T> {
         requires fits { sum_of self.old + T.value amount ≤ T.most }
         ensures { self.new ≡ added_at place (T.value amount) self.old }
     {
-        self.add_product(place, amount, T::of(1));
+        let product = Product {
+            factor: amount,
+            other: T::of(1),
+        };
+        self.count = add_product(
+            &mut self.sums,
+            &mut self.touched,
+            self.count,
+            place,
+            product,
+        );
     }
 
     /// Adds `factor` times each numerator at the place of its index. All sums together stay within the width of `T`.
@@ -139,10 +166,15 @@ impl<T: Natural> Scratch<T> {
         requires fits { sum_of self.old + T.value factor * total_of (zip indices.now (map S.value numerators.now)) ≤ T.most }
         ensures { self.new ≡ added_shares (T.value factor) (zip indices.now (map S.value numerators.now)) self.old }
     {
+        // The loop works on values of its own. A write into a list would make it read the fields of `self` anew.
+        let sums: &mut [T] = &mut self.sums;
+        let touched: &mut [u32] = &mut self.touched;
+        let mut count = self.count;
         for i in 0..indices.len() {
-            let numerator = T::of(numerators[i].wide());
-            self.add_product(indices[i], factor, numerator);
+            let other = T::of(numerators[i].wide());
+            count = add_product(sums, touched, count, indices[i], Product { factor, other });
         }
+        self.count = count;
     }
 
     /// Replaces the entries by the sums that are not 0, in any order. All sums become 0.
