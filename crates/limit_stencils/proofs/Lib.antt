@@ -2,8 +2,8 @@ mod LastingLemmas
 mod OrderLemmas
 mod RoundLemmas
 mod WeightLemmas
-mod PutLemmas
 mod CauseLemmas
 mod QuadLemmas
+mod NextLemmas
 mod SmoothLemmas
 mod BoundLemmas

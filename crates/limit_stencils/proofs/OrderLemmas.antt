@@ -101,7 +101,7 @@ corner-places : (v : ℕ) (ends opposites : List ℕ) (semi b : Bool) (sharp : L
 corner-places v ends opposites semi true sharp = refl
 corner-places v ends opposites semi false sharp = places-ends v ends opposites semi sharp
 
-map-twice : {X Y Z : Type 0} (f : Y → Z) (g : X → Y) (xs : List X) → map f (map g xs) ≡ map (λ x. f (g x)) xs
+pub map-twice : {X Y Z : Type 0} (f : Y → Z) (g : X → Y) (xs : List X) → map f (map g xs) ≡ map (λ x. f (g x)) xs
 map-twice f g [] = refl
 map-twice f g (x ∷ xs) = ap (λ l. f (g x) ∷ l) (map-twice f g xs)
 

@@ -80,10 +80,10 @@ module _ (t : Topology) (is : IsTopology t) (smooth : IsSmooth t) (v : ℕ) (ins
 
 -- the weights of a smooth vertex are those by its rule
 pub smooth-put : (t : Topology) (v : ℕ) (put : Mask) (result : Result (Unit {0}) Memory) → IsTopology t → IsSmooth t → v < t.level.point_count
-    → OnOk result (put ≡ smooth_weights v (ends_in t v) (opposites_in t v))
-    → OnOk result (put ≡ weights_by_rule v (ends_in t v) (opposites_in t v) (rule_in t v))
+    → OnOk result (put ≡ smooth_weights t v)
+    → OnOk result (put ≡ weights_by_rule t v (rule_in t v))
 smooth-put t v put result is smooth inside made =
-    subst (λ rule. OnOk result (put ≡ weights_by_rule v (ends_in t v) (opposites_in t v) rule)) (sym (smooth-rule t is smooth v inside)) made
+    subst (λ rule. OnOk result (put ≡ weights_by_rule t v rule)) (sym (smooth-rule t is smooth v inside)) made
 
 -- each point of a smooth level has a limit mask
 pub smooth-limits : (t : Topology) → IsTopology t → has_quads t.level ≡ true → IsTrue (has_sharp_boundary t.level) → IsSmooth t → HasLimits t.level

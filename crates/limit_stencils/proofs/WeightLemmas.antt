@@ -1,10 +1,12 @@
 -- The weights put for a vertex are those of its limit mask.
 use Rattle.std.proofs.Common.{◌≡◌, ℕ, zero, suc, ◌+◌, ◌*◌, ◌<◌, Bool, true, false, ◌&&◌, ◌||◌, nat_eq, nat_lt, if◌then◌else◌, List, [], ◌∷◌, ◌++◌, length, get_or, Result, Ok, Err, OnOk, arith, refl, ap, sym, subst, ◌∙◌}
-use Rattle.std.specs.List.{All, filter, list_all}
+use Rattle.std.specs.List.{All, filter, flat_map, list_all}
+use Rattle.std.specs.List.Sorted.{IsPermutation}
 use Rattle.std.proofs.lemmas.Bool.{and_from, and_parts, cond_both, lt-ltb, ltb-true, false≢true}
-use Rattle.std.proofs.lemmas.List.{get_or_default}
+use Rattle.std.proofs.lemmas.List.{get_or_default, length-map}
 use Rattle.std.proofs.lemmas.List.Folds.{list_all-map}
 use Rattle.std.proofs.lemmas.List.FromFn.{get_or-map-range_with_len, length-map-range_with_len}
+use Rattle.std.proofs.lemmas.List.Sorted.{IsPermutation-refl, IsPermutation-sym, IsPermutation-cons, All-permutation, sum_by-IsPermutation}
 use Rattle.std.proofs.lemmas.List.Sums.{list_all-from_AllPass}
 use Rattle.subdiv_model.specs.Polygons.{polygon_at}
 use Rattle.subdiv_model.specs.Edges.{all_sides, edges_of}
@@ -16,7 +18,7 @@ use Rattle.subdiv_model.specs.Mask.{SourcePoint, OfPoint, OfFace, Term, Mask, ma
 use Rattle.subdiv_model.specs.Fault.{LimitCause}
 use Rattle.subdiv_model.specs.Limit.{limit_of, limit_of_rule, limit_mask, limit_masks, mask_or_itself, cause_of_limit, opposite_corner, opposites_at, has_semi_sharp, lasting_rule}
 use Rattle.sharpness_laws.specs.SameWeights.{HaveSameWeights, is_joined}
-use Rattle.sharpness_laws.proofs.JoinedWeightLemmas.{weight_in-mask_of}
+use Rattle.sharpness_laws.proofs.JoinedWeightLemmas.{weight_in-mask_of, weight_in-permuted}
 use Rattle.sharpness_laws.proofs.MaskOrderLemmas.{same_weights-sym, same_weights-trans}
 use Rattle.sharpness_laws.proofs.MaskValueLemmas.{joined-mask_of}
 use Rattle.sharpness_laws.proofs.ProperLemmas.{all-get_or}
@@ -33,13 +35,43 @@ use Rattle.child_masks.proofs.OriginLemmas.{is-over}
 use Rattle.stencil_factory.specs.MaskRows.{IsPointAmong, AreWeightsOf, mask_at, no_mask}
 use Rattle.limit_stencils.specs.declared.lasting.LastingRule.{LastingRule}
 use Rattle.limit_stencils.specs.declared.lasting.LastingRule.TheVariants.{Smooth as SmoothRule, Dart, Crease, Corner}
-use Rattle.limit_stencils.specs.AtVertex.{opposites_in, lasting_ends, rule_of_ends, rule_in, is_semi_in, limit_by_rule, limit_in, IsSameLimit, smooth_weights, weights_by_rule}
+use Rattle.limit_stencils.specs.AtVertex.{face_terms, opposites_in, lasting_ends, rule_of_ends, rule_in, is_semi_in, limit_by_rule, limit_in, IsSameLimit, weights_by_rule}
 use Rattle.limit_stencils.specs.Limits.{HasLimits}
 use Rattle.limit_stencils.proofs.OrderLemmas.{same-limit}
 use Rattle.limit_stencils.proofs.RoundLemmas.{smooth-round}
+use Rattle.limit_stencils.proofs.NextLemmas.{quads-permuted}
 use Rattle.limit_stencils.proofs.CauseLemmas.{same-causes, fine-at}
 
+-- The terms of a vertex, those of its neighbours before those of its opposite corners.
+
+abbrev smooth_listed : ℕ → List ℕ → List ℕ → Mask
+smooth_listed v ends opposites =
+    let n = length ends in
+    record { terms = weigh (n * n) (OfPoint v) ∷ (weigh_points 4 ends ++ weigh_points 1 opposites); denominator = n * (n + 5) }
+
+abbrev listed_by_rule : ℕ → List ℕ → List ℕ → LastingRule → Mask
+listed_by_rule v ends opposites SmoothRule = smooth_listed v ends opposites
+listed_by_rule v ends opposites (Dart end) = smooth_listed v ends opposites
+listed_by_rule v ends opposites (Crease first second) =
+    record { terms = weigh 4 (OfPoint v) ∷ weigh_points 1 (first ∷ second ∷ []); denominator = 6 }
+listed_by_rule v ends opposites Corner = record { terms = weigh 1 (OfPoint v) ∷ []; denominator = 1 }
+
 -- Weights.
+
+-- the masks have equal denominators, and the terms in any order
+record HaveSameTerms (m n : Mask) : Type 0 where
+  denominator : m.denominator ≡ n.denominator
+  terms : IsPermutation m.terms n.terms
+
+-- weights of a mask are its weights in any order
+permuted-weights : (count : ℕ) (mask m n : Mask) → HaveSameTerms m n → AreWeightsOf count mask n → AreWeightsOf count mask m
+permuted-weights count mask m n h are = record {
+  same = same_weights-trans m n mask (record { denominator = h.denominator; weights = λ source. weight_in-permuted m.terms n.terms source h.terms }) are.same;
+  joined = are.joined;
+  points = All-permutation (λ t. IsPointAmong count t.source) n.terms m.terms (IsPermutation-sym m.terms n.terms h.terms) are.points;
+  total = sym (sum_by-IsPermutation (λ t. t.weight) m.terms n.terms h.terms) ∙ are.total ∙ sym h.denominator;
+  positive = subst (λ d. 0 < d) (sym h.denominator) are.positive;
+}
 
 joining : (terms : List Term) (denominator : ℕ) → HaveSameWeights (record { terms = terms; denominator = denominator }) (mask_of terms denominator)
 joining terms denominator = record { denominator = refl; weights = λ source. sym (weight_in-mask_of terms denominator source) }
@@ -49,7 +81,7 @@ module _ (v : ℕ) (ends opposites : List ℕ) where
   by-rule semi rule = limit_by_rule v ends opposites semi rule
 
   abbrev weights : LastingRule → Mask
-  weights rule = weights_by_rule v ends opposites rule
+  weights rule = listed_by_rule v ends opposites rule
 
   rule-weighs : (semi : Bool) (rule : LastingRule) → cause_of_limit (by-rule semi rule) ≡ [] → IsSameLimit (Ok (weights rule)) (by-rule semi rule)
   rule-weighs true SmoothRule fine = absurd (cc)
@@ -75,7 +107,7 @@ module _ (v : ℕ) (ends opposites : List ℕ) where
   joined-rule true model.DartRule = joined-corner
   joined-rule true (model.CreaseRule first second) = joined-corner
   joined-rule true model.CornerRule = joined-corner
-  joined-rule false model.SmoothRule = joined-mask_of (smooth_weights v ends opposites).terms (smooth_weights v ends opposites).denominator
+  joined-rule false model.SmoothRule = joined-mask_of (smooth_listed v ends opposites).terms (smooth_listed v ends opposites).denominator
   joined-rule false model.DartRule = joined-corner
   joined-rule false (model.CreaseRule first second) =
       joined-mask_of (weigh 4 (OfPoint v) ∷ weigh_points 1 (get_or ends first 0 ∷ get_or ends second 0 ∷ [])) 6
@@ -90,7 +122,7 @@ module _ (v : ℕ) (ends opposites : List ℕ) where
   abbrev IsWhole : Mask → Type 0
   IsWhole mask = (total_weight mask.terms ≡ mask.denominator) × (0 < mask.denominator)
 
-  smooth-whole : 0 < length ends → length opposites ≡ length ends → IsWhole (smooth_weights v ends opposites)
+  smooth-whole : 0 < length ends → length opposites ≡ length ends → IsWhole (smooth_listed v ends opposites)
   smooth-whole some round =
       let n = length ends in
       let around = weigh_points 4 ends ++ weigh_points 1 opposites in
@@ -144,12 +176,12 @@ module _ (points : ℕ) where
   rule-below false (a ∷ (b ∷ (c ∷ ends))) h = tt
 
   module _ (v : ℕ) (ends opposites : List ℕ) (own : is_below v ≡ true) (h : list_all is_below ends ≡ true) (k : list_all is_below opposites ≡ true) where
-    smooth-from : are_from is_point (smooth_weights v ends opposites).terms ≡ true
+    smooth-from : are_from is_point (smooth_listed v ends opposites).terms ≡ true
     smooth-from =
         and_from _ _ own (all-append (λ t. is_point t.source) (weigh_points 4 ends) (weigh_points 1 opposites)
         (from-points is_point 4 ends h) (from-points is_point 1 opposites k))
 
-    rule-from : (rule : LastingRule) → IsBelow rule → are_from is_point (weights_by_rule v ends opposites rule).terms ≡ true
+    rule-from : (rule : LastingRule) → IsBelow rule → are_from is_point (listed_by_rule v ends opposites rule).terms ≡ true
     rule-from SmoothRule below = smooth-from
     rule-from (Dart end) below = smooth-from
     rule-from (Crease first second) below = and_from _ _ own (and_from _ _ below.0 (and_from _ _ below.1 refl))
@@ -204,8 +236,28 @@ module _ (t : Topology) (v : ℕ) (is : IsTopology t) (inside : v < t.level.poin
       own : below v ≡ true
       own = lt-ltb v level.point_count inside
 
+  -- the terms put by the rule are those of the neighbours and of the opposite corners
+  rule-terms : (semi : Bool) (rule : LastingRule) → cause_of_limit (limit_by_rule v (ends_in t v) (opposites_in t v) semi rule) ≡ []
+      → (rule ≡ SmoothRule → IsPermutation (flat_map (face_terms level.polygons v) (faces_in t v)) (weigh_points 4 (ends_in t v) ++ weigh_points 1 (opposites_in t v)))
+      → HaveSameTerms (weights_by_rule t v rule) (listed_by_rule v (ends_in t v) (opposites_in t v) rule)
+  rule-terms semi SmoothRule fine around = record {
+    denominator = refl;
+    terms = IsPermutation-cons (weigh (length (ends_in t v) * length (ends_in t v)) (OfPoint v)) _ _ (around refl);
+  }
+  rule-terms true (Dart end) fine around = absurd (cc)
+  rule-terms false (Dart end) fine around = absurd (cc)
+  rule-terms semi (Crease first second) fine around = record { denominator = refl; terms = IsPermutation-refl _ }
+  rule-terms semi Corner fine around = record { denominator = refl; terms = IsPermutation-refl _ }
+
+  quads-around : HasLimits level → rule_in t v ≡ SmoothRule
+      → IsPermutation (flat_map (face_terms level.polygons v) (faces_in t v)) (weigh_points 4 (ends_in t v) ++ weigh_points 1 (opposites_in t v))
+  quads-around has smooth =
+      let round = (smooth-round t v is inside has.boundary smooth).1 in
+      quads-permuted t v is inside has.quads
+      (sym (length-map (faces_in t v) (λ face. opposite_corner v (polygon_at level.polygons face))) ∙ round ∙ length-map items end)
+
   -- the weights put by the lasting rule are the limit mask of the point
-  pub are-weights : HasLimits level → (put : Mask) → put ≡ weights_by_rule v (ends_in t v) (opposites_in t v) (rule_in t v)
+  pub are-weights : HasLimits level → (put : Mask) → put ≡ weights_by_rule t v (rule_in t v)
       → AreWeightsOf level.point_count (limit_mask level v) put
   are-weights has put e =
       let ends = ends_in t v in
@@ -217,15 +269,16 @@ module _ (t : Topology) (v : ℕ) (is : IsTopology t) (inside : v < t.level.poin
       let none : cause_of_limit (limit_in t v) ≡ [] = sym (same-causes (limit_of level v) (limit_in t v) same) ∙ fine in
       let whole = rule-whole v ends opposites semi rule none (smooth-round t v is inside has.boundary) in
       subst (AreWeightsOf level.point_count (limit_mask level v)) (sym e)
-      (record {
-        same = limit-weighs v ends opposites (weights_by_rule v ends opposites rule) (limit_of level v) (limit_in t v) fine same (rule-weighs v ends opposites semi rule none);
+      (permuted-weights level.point_count (limit_mask level v) (weights_by_rule t v rule) (listed_by_rule v ends opposites rule)
+      (rule-terms semi rule none (quads-around has)) (record {
+        same = limit-weighs v ends opposites (listed_by_rule v ends opposites rule) (limit_of level v) (limit_in t v) fine same (rule-weighs v ends opposites semi rule none);
         joined = joined-rule v (ends_at level v) (opposites_at level v) (has_semi_sharp (vertex_sharpness_of level v) (ring_at level v)) (lasting_rule (vertex_sharpness_of level v) (ring_at level v));
-        points = all-among level.point_count (weights_by_rule v ends opposites rule).terms
+        points = all-among level.point_count (listed_by_rule v ends opposites rule).terms
             (rule-from level.point_count v ends opposites (lt-ltb v level.point_count inside) ends-below opposites-below rule
             (rule-below level.point_count (is_infinite (vertex_sharpness_of level v) || nat_eq (length items) 0) (lasting_ends level v items) sharp-below));
         total = whole.0;
         positive = whole.1;
-      })
+      }))
 
 -- the limit mask at its place in the list
 pub mask-there : (level : Level) (v : ℕ) → v < level.point_count → limit_mask level v ≡ mask_at (limit_masks level) v
@@ -241,12 +294,12 @@ module _ (t seen : Topology) (e : t ≡ seen) where
 
   -- the weights were put, or memory ran out
   pub puts-limit : (v : ℕ) (put : Mask) (result : Result (Unit {0}) Memory) → IsTopology t → v < t.level.point_count → HasLimits t.level
-      → OnOk result (put ≡ weights_by_rule v (ends_in t v) (opposites_in t v) (rule_in t v))
+      → OnOk result (put ≡ weights_by_rule t v (rule_in t v))
       → OnOk result (AreWeightsOf seen.level.point_count (mask_at (limit_masks seen.level) v) put)
   puts-limit v put result is inside has made =
       subst (λ (s : Topology). OnOk result (AreWeightsOf s.level.point_count (mask_at (limit_masks s.level) v) put)) e (here result made)
     where
-      here : (result : Result (Unit {0}) Memory) → OnOk result (put ≡ weights_by_rule v (ends_in t v) (opposites_in t v) (rule_in t v))
+      here : (result : Result (Unit {0}) Memory) → OnOk result (put ≡ weights_by_rule t v (rule_in t v))
           → OnOk result (AreWeightsOf t.level.point_count (mask_at (limit_masks t.level) v) put)
       here (Ok _) made = subst (λ mask. AreWeightsOf t.level.point_count mask put) (mask-there t.level v inside) (are-weights t v is inside has put made)
       here (Err _) made = tt

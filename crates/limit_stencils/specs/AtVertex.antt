@@ -1,8 +1,8 @@
 -- The limit mask of a point of a level of quads, from its edges and quads in the order of the level's lists.
-use Rattle.std.specs.Prelude.{◌≡◌, ℕ, ◌+◌, ◌*◌, Bool, ◌||◌, nat_eq, if◌then◌else◌, List, [], ◌∷◌, ◌++◌, length, map, get_or, Some, Result, Ok, Err, MatchResult}
-use Rattle.std.specs.List.{filter}
+use Rattle.std.specs.Prelude.{◌≡◌, ℕ, ◌+◌, ◌*◌, ◌%◌, Bool, ◌||◌, nat_eq, if◌then◌else◌, List, [], ◌∷◌, ◌++◌, length, map, get_or, Some, Result, Ok, Err, MatchResult}
+use Rattle.std.specs.List.{filter, flat_map}
 use Rattle.subdiv_model.specs.Lists.{first_of}
-use Rattle.subdiv_model.specs.Polygons.{polygon_at}
+use Rattle.subdiv_model.specs.Polygons.{Polygon, polygon_at}
 use Rattle.subdiv_model.specs.Sharpness.{Smooth}
 use Rattle.subdiv_model.specs.Level.{Level, vertex_sharpness_of}
 use Rattle.subdiv_model.specs.Feature.{is_infinite}
@@ -11,7 +11,7 @@ use Rattle.subdiv_model.specs.Fault as model
 use Rattle.subdiv_model.specs.Fault.{LimitCause}
 use Rattle.subdiv_model.specs.Limit.{opposite_corner, has_semi_sharp, smooth_limit_mask, crease_limit_mask, unless_semi_sharp}
 use Rattle.sharpness_laws.specs.SameWeights.{HaveSameWeights}
-use Rattle.level_topology.specs.Topology.{Topology}
+use Rattle.level_topology.specs.Topology.{Topology, corner_of}
 use Rattle.mask_rules.specs.Around.{end_of_edge, ends_in, faces_in, ring_in}
 use Rattle.limit_stencils.specs.declared.lasting.LastingRule.{LastingRule}
 use Rattle.limit_stencils.specs.declared.lasting.LastingRule.TheVariants.{Smooth as SmoothRule, Dart, Crease, Corner}
@@ -71,19 +71,27 @@ IsSameLimit (Ok mask) (Err cause) = ⊥
 IsSameLimit (Err cause) (Ok mask) = ⊥
 IsSameLimit (Err cause) (Err other) = cause ≡ other
 
--- the terms of a smooth vertex, one after another
-abbrev pub smooth_weights : ℕ → List ℕ → List ℕ → Mask
-smooth_weights v ends opposites =
-    let n = length ends in
-    record { terms = weigh (n * n) (OfPoint v) ∷ (weigh_points 4 ends ++ weigh_points 1 opposites); denominator = n * (n + 5) }
+-- the terms of one quad at a vertex: the next corner and the opposite corner, from the place of the vertex among the corners
+abbrev pub quad_terms : Polygon → ℕ → List Term
+quad_terms quad place = weigh 4 (OfPoint (get_or quad ((place + 1) % 4) 0)) ∷ (weigh 1 (OfPoint (get_or quad ((place + 2) % 4) 0)) ∷ [])
+
+-- the terms of one face at a vertex
+abbrev pub face_terms : List Polygon → ℕ → ℕ → List Term
+face_terms polygons v face = quad_terms (polygon_at polygons face) (corner_of polygons v face)
+
+-- the terms of a smooth vertex, one quad after another
+abbrev pub smooth_weights : Topology → ℕ → Mask
+smooth_weights t v =
+    let n = length (ends_in t v) in
+    record { terms = weigh (n * n) (OfPoint v) ∷ flat_map (face_terms t.level.polygons v) (faces_in t v); denominator = n * (n + 5) }
 
 -- the terms of a vertex by its rule, over the denominator of that rule
-abbrev pub weights_by_rule : ℕ → List ℕ → List ℕ → LastingRule → Mask
-weights_by_rule v ends opposites SmoothRule = smooth_weights v ends opposites
-weights_by_rule v ends opposites (Dart end) = smooth_weights v ends opposites
-weights_by_rule v ends opposites (Crease first second) =
+abbrev pub weights_by_rule : Topology → ℕ → LastingRule → Mask
+weights_by_rule t v SmoothRule = smooth_weights t v
+weights_by_rule t v (Dart end) = smooth_weights t v
+weights_by_rule t v (Crease first second) =
     record { terms = weigh 4 (OfPoint v) ∷ weigh_points 1 (first ∷ second ∷ []); denominator = 6 }
-weights_by_rule v ends opposites Corner = record { terms = weigh 1 (OfPoint v) ∷ []; denominator = 1 }
+weights_by_rule t v Corner = record { terms = weigh 1 (OfPoint v) ∷ []; denominator = 1 }
 
 -- the mask with these terms added
 abbrev pub with_terms : Mask → List Term → Mask

@@ -1,9 +1,8 @@
-//! Whether each face is a quad, and the opposite corners of the quads at a vertex.
+//! Whether each face is a quad, and the next and opposite corners of a quad.
 
 ghost use Rattle.std.specs.Prelude.{◌≡◌, ◌+◌, ◌%◌, ◌<◌, true, length, get_or, MatchOption};
+ghost use Rattle.subdiv_model.specs.Polygons.{polygon_at};
 ghost use Rattle.subdiv_model.specs.Limit.{has_quads};
-ghost use Rattle.mask_rules.specs.Around.{faces_in};
-ghost use Rattle.limit_stencils.specs.AtVertex.{opposites_in};
 ghost use Rattle.limit_stencils.specs.Limits.{IsFirstOther};
 
 use level_topology::Level;
@@ -21,6 +20,13 @@ pub(crate) fn first_other(level: &Level) -> Option<u32>
     None
 }
 
+// Returns the place of the next corner of a quad.
+fn next_place(place: u16) -> usize
+    ensures { result ≡ (place + 1) % 4 }
+{
+    (usize::from(place) + 1) % 4
+}
+
 // Returns the place of the opposite corner of a quad.
 fn opposite_place(place: u16) -> usize
     ensures { result ≡ (place + 2) % 4 }
@@ -28,15 +34,13 @@ fn opposite_place(place: u16) -> usize
     (usize::from(place) + 2) % 4
 }
 
-/// Returns the corner opposite to a vertex in quad `i` of the vertex.
-pub(crate) fn opposite(level: &Level, v: u32, i: usize) -> u32
-    requires known { v < level.now.level.point_count }
+/// Returns the next corner and the opposite corner of a quad, from the place of a corner.
+pub(crate) fn next_and_opposite(level: &Level, face: u32, place: u16) -> (u32, u32)
+    requires known { face < length level.now.level.polygons }
     requires quads { has_quads level.now.level ≡ true }
-    requires place { i < length (faces_in level.now v) }
-    ensures { result ≡ get_or (opposites_in level.now v) i 0 }
+    ensures next { result.0 ≡ get_or (polygon_at level.now.level.polygons face) ((place + 1) % 4) 0 }
+    ensures opposite { result.1 ≡ get_or (polygon_at level.now.level.polygons face) ((place + 2) % 4) 0 }
 {
-    level.facts();
-    let face = level.vertex_faces(v)[i];
-    let place = level.vertex_faces_at(v)[i];
-    level.face_vertices(face)[opposite_place(place)]
+    let quad = level.face_vertices(face);
+    (quad[next_place(place)], quad[opposite_place(place)])
 }

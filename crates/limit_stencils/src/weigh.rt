@@ -1,38 +1,41 @@
 //! The weights of a limit point.
 
-ghost use Rattle.std.specs.Prelude.{◌≡◌, ◌<◌, true, [], ◌∷◌, OnOk};
+ghost use Rattle.std.specs.Prelude.{◌≡◌, ◌<◌, true, [], ◌∷◌, length, OnOk};
+ghost use Rattle.std.specs.List.{flat_map};
+ghost use Rattle.subdiv_model.specs.Polygons.{polygon_at};
 ghost use Rattle.subdiv_model.specs.Mask.{OfPoint, weigh, weigh_points};
 ghost use Rattle.subdiv_model.specs.Limit.{has_quads};
-ghost use Rattle.mask_rules.specs.Around.{ends_in};
-ghost use Rattle.limit_stencils.specs.AtVertex.{opposites_in, rule_in, smooth_weights, weights_by_rule, with_terms};
+ghost use Rattle.mask_rules.specs.Around.{faces_in};
+ghost use Rattle.limit_stencils.specs.AtVertex.{face_terms, quad_terms, rule_in, smooth_weights, weights_by_rule, with_terms};
 
 use crate::lasting::{LastingRule, lasting_rule};
-use crate::quads::opposite;
+use crate::quads::next_and_opposite;
 use level_topology::Level;
 use ratio128::Memory;
 use stencil_factory::PointWeights;
 
-// Puts the other ends of the edges.
-fn put_ends(level: &Level, v: u32, weights: &mut PointWeights) -> Result<(), Memory>
-    requires { v < level.now.level.point_count }
-    ensures { OnOk result (weights.new ≡ with_terms weights.old (weigh_points 4 (ends_in level.now v))) }
+// Puts the next corner and the opposite corner of a quad, from the place of the vertex among its corners.
+fn put_quad(level: &Level, face: u32, place: u16, weights: &mut PointWeights) -> Result<(), Memory>
+    requires known { face < length level.now.level.polygons }
+    requires quads { has_quads level.now.level ≡ true }
+    ensures { OnOk result (weights.new ≡ with_terms weights.old (quad_terms (polygon_at level.now.level.polygons face) place)) }
 {
-    level.facts();
-    for e in level.vertex_edges(v) {
-        weights.put(level.other_end(v, *e), 4)?;
-    }
-    Ok(())
+    let (next, opposite) = next_and_opposite(level, face, place);
+    weights.put(next, 4)?;
+    weights.put(opposite, 1)
 }
 
-// Puts the opposite corners of the quads.
-fn put_opposites(level: &Level, v: u32, weights: &mut PointWeights) -> Result<(), Memory>
+// Puts the next corner and the opposite corner of each quad of a vertex.
+fn put_quads(level: &Level, v: u32, weights: &mut PointWeights) -> Result<(), Memory>
     requires known { v < level.now.level.point_count }
     requires quads { has_quads level.now.level ≡ true }
-    ensures { OnOk result (weights.new ≡ with_terms weights.old (weigh_points 1 (opposites_in level.now v))) }
+    ensures { OnOk result (weights.new ≡ with_terms weights.old (flat_map (face_terms level.now.level.polygons v) (faces_in level.now v))) }
 {
     level.facts();
-    for i in 0..level.vertex_faces(v).len() {
-        weights.put(opposite(level, v, i), 1)?;
+    let faces = level.vertex_faces(v);
+    let places = level.vertex_faces_at(v);
+    for i in 0..faces.len() {
+        put_quad(level, faces[i], places[i], weights)?;
     }
     Ok(())
 }
@@ -45,16 +48,15 @@ fn start(v: u32, weight: u128, denominator: u128, weights: &mut PointWeights) ->
     weights.put(v, weight)
 }
 
-/// Puts the weights of a smooth vertex.
+/// Puts the weights of a smooth vertex. Each neighbour is the next corner of one quad.
 pub(crate) fn put_smooth(level: &Level, v: u32, weights: &mut PointWeights) -> Result<(), Memory>
     requires known { v < level.now.level.point_count }
     requires quads { has_quads level.now.level ≡ true }
-    ensures { OnOk result (weights.new ≡ smooth_weights v (ends_in level.now v) (opposites_in level.now v)) }
+    ensures { OnOk result (weights.new ≡ smooth_weights level.now v) }
 {
     let valence = u128::from(level.valence(v));
     start(v, valence * valence, valence * (valence + 5), weights)?;
-    put_ends(level, v, weights)?;
-    put_opposites(level, v, weights)
+    put_quads(level, v, weights)
 }
 
 // Puts the weights of a vertex of a crease and of its two neighbours on the crease.
@@ -70,7 +72,7 @@ fn put_crease(v: u32, first: u32, second: u32, weights: &mut PointWeights) -> Re
 pub(crate) fn put_limit(level: &Level, v: u32, weights: &mut PointWeights) -> Result<(), Memory>
     requires known { v < level.now.level.point_count }
     requires quads { has_quads level.now.level ≡ true }
-    ensures { OnOk result (weights.new ≡ weights_by_rule v (ends_in level.now v) (opposites_in level.now v) (rule_in level.now v)) }
+    ensures { OnOk result (weights.new ≡ weights_by_rule level.now v (rule_in level.now v)) }
 {
     match lasting_rule(level, v) {
         LastingRule::Smooth | LastingRule::Dart(_) => put_smooth(level, v, weights),
