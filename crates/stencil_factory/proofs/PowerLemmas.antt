@@ -12,7 +12,7 @@ use Rattle.child_masks.proofs.WithinLemmas.{joined-absorbs, joined-taken_in}
 use Rattle.stencil_apply.specs.Table.{Share}
 use Rattle.stencil_factory.specs.Rows.{support_of}
 use Rattle.stencil_factory.specs.Joined.{weighing}
-use Rattle.stencil_factory.specs.Powers.{IsPower, IsGreaterPower, IsPowerWithin}
+use Rattle.stencil_factory.specs.Powers.{IsPower, IsWordPower, IsGreaterPower, IsPowerWithin}
 use Rattle.stencil_factory.proofs.FoundLemmas.{weights-more}
 
 positive-power : (n : ℕ) → IsPower n → 0 < n
@@ -88,3 +88,22 @@ module _ (dens : List ℕ) (positive : All (λ den. 0 < den) dens) (weights : Li
               power = both.0;
               is = weights-more dens positive weights inside short i m r below old.is (λ z. absurd (omega (arith, z, e))) (λ h a b x y k l. both.1 a b k l);
             }
+
+  -- Where all denominators are powers of two, the greatest with that of the weight.
+  module _ (powers : All IsWordPower dens) (i m r : ℕ) (below : i < length weights) (before : IsPowerWithin m (multiple (take i weights)))
+      (none : (get_or weights i (0, 0)).1 ≡ 0 → r ≡ m)
+      (some : 0 < (get_or weights i (0, 0)).1 → r ≡ max m (get_or dens (get_or weights i (0, 0)).0 0)) where
+    first-some : 0 < m
+    first-some = positive-power m before.power
+
+    still-some : (n : ℕ) → (get_or weights i (0, 0)).1 ≡ n → 0 < r
+    still-some zero e = omega (arith, first-some, none e)
+    still-some (suc n) e = omega (arith, first-some, some (omega (arith, e)))
+
+    pub greatest-more : IsPowerWithin r (multiple (take (i + 1) weights))
+    greatest-more =
+        powers-more i m r below (λ _. before) none (λ h _. record {
+          some = first-some;
+          power = (powers (get_or weights i (0, 0)).0 0 (inside i (0, 0) below)).power;
+          is = some h;
+        }) (still-some (get_or weights i (0, 0)).1 refl)

@@ -1,11 +1,16 @@
 -- Powers of two among denominators.
-use Rattle.std.specs.Prelude.{ℕ, ◌≡◌, ◌^◌, ◌<◌, max}
+use Rattle.std.specs.Prelude.{ℕ, ◌≡◌, ◌-◌, ◌^◌, ◌<◌, ◌≤◌, max}
 use Rattle.child_masks.specs.Survey.{within_bound}
 
 -- The number is a power of two.
 pub record IsPower (n : ℕ) : Type 0 where
   pub exponent : ℕ
   pub is : n ≡ 2 ^ exponent
+
+-- The number is a power of two of 64 bits.
+pub record IsWordPower (n : ℕ) : Type 0 where
+  pub power : IsPower n
+  pub fits : n ≤ 2 ^ 64 - 1
 
 -- The second number is a power of two, and `greater` is the greater of both.
 pub record IsGreaterPower (first second greater : ℕ) : Type 0 where

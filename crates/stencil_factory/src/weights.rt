@@ -1,7 +1,7 @@
 //! Processes the weights that a caller gave for a mask: their common multiple, the points they name, and the amounts they add. Weights
 //! of 0 are skipped.
 
-ghost use Rattle.std.specs.Prelude.{◌≡◌, ℕ, ◌*◌, ◌/◌, ◌<◌, ◌≤◌, true, [], ◌∷◌, length, map, get_or, OnOk};
+ghost use Rattle.std.specs.Prelude.{◌≡◌, ℕ, ◌*◌, ◌/◌, ◌<◌, ◌≤◌, true, [], ◌∷◌, length, map, max, get_or, OnOk};
 ghost use Rattle.std.specs.List.{All};
 ghost use Rattle.subdiv_model.specs.Multiples.{lcm_of, lcm_of_all};
 ghost use Rattle.subdiv_model.specs.Channel.{number_bound};
@@ -11,7 +11,7 @@ ghost use Rattle.stencil_factory.specs.Scratch.{added_shares};
 ghost use Rattle.stencil_factory.specs.Flat.{CanAddAll};
 ghost use Rattle.stencil_factory.specs.PlaceSet.{with_places};
 ghost use Rattle.stencil_factory.specs.Joined.{amounts_of, weighing};
-ghost use Rattle.stencil_factory.specs.Powers.{IsPower, IsGreaterPower};
+ghost use Rattle.stencil_factory.specs.Powers.{IsPower, IsWordPower, IsGreaterPower};
 
 use crate::flat::add_point;
 use crate::place_set::PlaceSet;
@@ -99,6 +99,71 @@ pub(crate) fn multiple_of_weights(weights: &[(u32, u128)], dens: &[u128]) -> u12
         u128::from(greatest)
     } else {
         common_multiple_of_weights(weights, dens)
+    }
+}
+
+// Returns whether a number is a power of two of 64 bits.
+fn is_word_power(n: u128) -> bool
+    requires { 0 < n }
+    ensures { result ≡ true → IsWordPower n }
+{
+    n <= u64::MAX as u128 && is_power(n as u64)
+}
+
+/// Returns whether each denominator is a power of two of 64 bits.
+pub(crate) fn are_word_powers(dens: &[u128]) -> bool
+    requires { All (λ den. 0 < den) dens.now }
+    ensures { result ≡ true → All IsWordPower dens.now }
+{
+    for den in dens {
+        if !is_word_power(*den) {
+            return false;
+        }
+    }
+    true
+}
+
+// Returns the greater of `greatest` and the point's denominator. A weight of 0 leaves `greatest` unchanged.
+fn greater_with(greatest: u64, weight: &(u32, u128), dens: &[u128]) -> u64
+    requires known { weight.now.0 < length dens.now }
+    requires powers { All IsWordPower dens.now }
+    ensures none { weight.now.1 ≡ 0 → result ≡ greatest }
+    ensures some { 0 < weight.now.1 → result ≡ max greatest (get_or dens.now weight.now.0 0) }
+{
+    if weight.1 == 0 {
+        return greatest;
+    }
+    greatest.max(dens[weight.0 as usize] as u64)
+}
+
+// Returns the greatest denominator of the points with a weight above 0. All denominators are powers of two of 64 bits.
+fn greatest_of_powers(weights: &[(u32, u128)], dens: &[u128]) -> u64
+    requires inside { All (λ share. share.0 < length dens.now) weights.now }
+    requires positive { All (λ den. 0 < den) dens.now }
+    requires short { All (λ den. den ≤ number_bound) dens.now }
+    requires powers { All IsWordPower dens.now }
+    ensures { result ≡ within_bound (lcm_of_all (map (λ v. get_or dens.now v 1) (support_of (weighing weights.now)))) }
+{
+    let mut greatest = 1;
+    for weight in weights {
+        greatest = greater_with(greatest, weight, dens);
+    }
+    greatest
+}
+
+/// Returns the least common multiple of the denominators of the points with a weight above 0, or 0 if it is above 2^126 - 1. If `powers`
+/// is true, all denominators are powers of two of 64 bits, and none is tested again.
+pub(crate) fn multiple_of_row(weights: &[(u32, u128)], dens: &[u128], powers: bool) -> u128
+    requires inside { All (λ share. share.0 < length dens.now) weights.now }
+    requires positive { All (λ den. 0 < den) dens.now }
+    requires short { All (λ den. den ≤ number_bound) dens.now }
+    requires powers { powers ≡ true → All IsWordPower dens.now }
+    ensures { result ≡ within_bound (lcm_of_all (map (λ v. get_or dens.now v 1) (support_of (weighing weights.now)))) }
+{
+    if powers {
+        u128::from(greatest_of_powers(weights, dens))
+    } else {
+        multiple_of_weights(weights, dens)
     }
 }
 
