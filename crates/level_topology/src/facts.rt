@@ -4,8 +4,7 @@ ghost use Rattle.std.specs.Prelude.{◌≡◌, ◌<◌, true, not, length};
 ghost use Rattle.std.specs.List.{list_any, count_by};
 ghost use Rattle.subdiv_model.specs.Polygons.{polygon_at, sides_of};
 ghost use Rattle.subdiv_model.specs.Edges.{edges_of};
-ghost use Rattle.subdiv_model.specs.Sharpness.{is_sharp};
-ghost use Rattle.subdiv_model.specs.Level.{edge_sharpness_of, edges_at, vertex_sharpness_of};
+ghost use Rattle.subdiv_model.specs.Level.{edges_at, vertex_sharpness_of};
 ghost use Rattle.subdiv_model.specs.Feature.{facts_of, is_infinite, is_at_boundary, is_sharp_inside, is_smooth_at, is_regular};
 ghost use Rattle.level_topology.specs.Topology.{edge_at};
 ghost use Rattle.level_topology.specs.View.{facts_of_code};
@@ -31,20 +30,12 @@ pub struct FaceFacts {
 }
 
 impl Level {
-    // Whether an edge has a sharpness above 0.
-    fn is_sharp_edge(&self, e: u32) -> bool
-        requires { e < length (edges_of self.now.level.polygons) }
-        ensures { result ≡ is_sharp (edge_sharpness_of self.now.level (edge_at self.now.level.polygons e)) }
-    {
-        self.edge_sharpness(e).is_sharp()
-    }
-
     // Whether an edge is sharp and has two faces.
     fn is_sharp_inside(&self, e: u32) -> bool
         requires { e < length (edges_of self.now.level.polygons) }
         ensures { result ≡ is_sharp_inside self.now.level (edge_at self.now.level.polygons e) }
     {
-        !self.is_boundary(e) && self.is_sharp_edge(e)
+        !self.is_boundary(e) && self.edge_sharpness(e).is_sharp()
     }
 
     // Whether a point is an end of a boundary edge.

@@ -73,7 +73,7 @@ impl Level {
     pub fn edges(&self) -> u32
         ensures { result ≡ length (edges_of self.now.level.polygons) }
     {
-        self.tables.edge_sharpness.len()
+        self.tables.edge_vertices.len() as u32
     }
 
     /// How many faces there are.

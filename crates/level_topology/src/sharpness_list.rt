@@ -67,13 +67,6 @@ impl SharpnessList {
         })
     }
 
-    // How many items there are.
-    pub(crate) fn len(&self) -> u32
-        ensures { result ≡ length self.now.sharpness }
-    {
-        self.codes.len() as u32
-    }
-
     // The sharpness of an item.
     pub(crate) fn at(&self, i: usize) -> Sharpness
         requires { i < length self.now.sharpness }
