@@ -1,9 +1,10 @@
 -- One more corner of a face line.
 use Rattle.std.proofs.Common.{◌≡◌, ℕ, Bool, true, false, ◌&&◌, List, [], ◌∷◌, ◌++◌, map, Option, Some, None, Result, Ok, Err, refl, ap, sym, subst, ◌∙◌, append_assoc}
 use Rattle.std.specs.List.{flat_map}
+use Rattle.std.specs.Option.{option_or}
 use Rattle.subdiv_model.specs.ObjFault as fault
 use Rattle.subdiv_model.specs.ObjWord.{Counts, is_face_corner, same_form, corner_fault}
-use Rattle.obj_tags.specs.Face.{IsNextCorner, NamesPlaces, ArePlacesOf, named_point, named_textures, list_of}
+use Rattle.obj_tags.specs.Face.{IsFirst, IsNextCorner, NamesPlaces, ArePlacesOf, named_point, named_textures, list_of}
 use Rattle.obj_tags.specs.Corner.{IsCornerOf}
 use Rattle.obj_tags.specs.Kept.{KeptUnless}
 use Rattle.obj_tags.specs.View.{cause_of}
@@ -62,6 +63,12 @@ and-first false q h = cc
 
 pub corner-of : (first word : List ℕ) (corner : Corner) → IsNextCorner (Ok corner) first word → IsCornerOf corner word
 corner-of first word corner good = record { is = and-first (is_face_corner word) (same_form first word) good.0; parts = good.1 }
+
+-- the first corner of a line remains, and the next one is the first where none was before
+pub first-kept : (first : Option Corner) (next : Corner) (start word later : List ℕ) → IsFirst first start word → IsCornerOf next word
+    → IsFirst (option_or first (Some next)) start later
+first-kept (Some corner) next start word later is here = is
+first-kept None next start word later same here = subst (IsCornerOf next) (sym same) here
 
 -- a line is refused for this cause
 pub refused-for : {X : Type 0} (r : Result X LineFault) (found : Option fault.ObjCause) (cause : ObjCause) (Says : X → Type 0)

@@ -2,9 +2,10 @@
 use Rattle.std.proofs.Common.{◌≡◌, ℕ, min, nat_lt, Bool, true, false, List, length, map, Option, Some, None, option_map, arith, refl, ap, sym, ◌∙◌, if◌then◌else◌}
 use Rattle.std.specs.Prelude.{is_some}
 use Rattle.std.specs.List.{filter}
+use Rattle.std.specs.Option.{option_or}
 use Rattle.std.proofs.lemmas.Bool.Decides.{nat_tests}
 use Rattle.subdiv_model.specs.ReadObj.{common_over, passes_bound, long_fault, wide_fault, first_fault, late_fault, lesser_fault}
-use Rattle.obj_tags.specs.Channel.{IsChannelOf, late_line, lesser_line}
+use Rattle.obj_tags.specs.Channel.{IsChannelOf, lesser_line}
 use Rattle.obj_tags.specs.Line.{Line}
 use Rattle.obj_tags.specs.Survey.{long_fault_at, IsCommonOf}
 use Rattle.obj_tags.specs.declared.survey.Common.{Common}
@@ -13,7 +14,7 @@ late-of : (kind : Line → Bool) (start value : ℕ) (wide long : Option ℕ) (l
     → option_map long_fault_at wide ≡ first_fault (wide_fault kind start lines) (length lines)
     → (wide ≡ None → value ≡ common_over start (filter kind lines))
     → option_map long_fault_at long ≡ first_fault (long_fault kind value lines) (length lines)
-    → option_map long_fault_at (late_line wide long) ≡ late_fault kind start lines
+    → option_map long_fault_at (option_or wide long) ≡ late_fault kind start lines
 late-of kind start value (Some place) long lines passes first same kept = rw (sym passes) first
 late-of kind start value None long lines passes first same kept =
     rw (sym passes) (kept ∙ ap (λ common. first_fault (long_fault kind common lines) (length lines)) (same refl))
@@ -21,13 +22,13 @@ late-of kind start value None long lines passes first same kept =
 -- the late fault of a channel
 pub late-channel : (Q : Type 0) (kind : Line → Bool) (over : ℕ → Line → Q) (start : ℕ) (common : Common) (numbers : List Q) (long : Option ℕ) (lines : List Line)
     → IsCommonOf kind start common lines → IsChannelOf Q kind over common.value numbers long lines
-    → option_map long_fault_at (late_line common.wide long) ≡ late_fault kind start lines
+    → option_map long_fault_at (option_or common.wide long) ≡ late_fault kind start lines
 late-channel Q kind over start common numbers long lines is are =
     late-of kind start common.value common.wide long lines is.passes is.first is.value are.first
 
 -- the numbers of a channel without a late fault
 pub late-kept : (Q : Type 0) (kind : Line → Bool) (over : ℕ → Line → Q) (start : ℕ) (common : Common) (numbers : List Q) (long : Option ℕ) (lines : List Line)
-    → late_line common.wide long ≡ None → IsCommonOf kind start common lines → IsChannelOf Q kind over common.value numbers long lines
+    → option_or common.wide long ≡ None → IsCommonOf kind start common lines → IsChannelOf Q kind over common.value numbers long lines
     → (common.value ≡ common_over start (filter kind lines))
     × (numbers ≡ map (over (common_over start (filter kind lines))) (filter kind lines))
 late-kept Q kind over start common numbers long lines none is are =
@@ -35,7 +36,7 @@ late-kept Q kind over start common numbers long lines none is are =
     let value = is.value parts.0 in
     (value, are.kept parts.1 ∙ ap (λ n. map (over n) (filter kind lines)) value)
   where
-    no-late : (wide long : Option ℕ) → late_line wide long ≡ None → (wide ≡ None) × (long ≡ None)
+    no-late : (wide long : Option ℕ) → option_or wide long ≡ None → (wide ≡ None) × (long ≡ None)
     no-late (Some place) long e = cc
     no-late None long e = (refl, e)
 

@@ -2,6 +2,7 @@
 use Rattle.std.proofs.Common.{◌≡◌, ℕ, ℤ, ◌+◌, ◌^◌, None, Bool, true, false, nat_lt, ◌≤◌, List, [], ◌∷◌, ◌++◌, length, map, take, get_or, arith, refl, ap, sym, subst, ◌∙◌, option_map, ⊎_elim, if◌then◌else◌}
 use Rattle.std.specs.Prelude.{unwrap_or}
 use Rattle.std.specs.List.{All, list_all, list_any, count_by, filter, flat_map}
+use Rattle.std.specs.Option.{option_or}
 use Rattle.std.proofs.Math.Seq.{take-length}
 use Rattle.std.proofs.lemmas.Bool.{and_parts, cases_Bool}
 use Rattle.std.proofs.lemmas.Bool.Decides.{nat_tests}
@@ -17,7 +18,7 @@ use Rattle.number_laws.proofs.CountLemmas.{any-count}
 use Rattle.obj_laws.proofs.ObjChannelLemmas.{passing-all, passing-count, corner-words, channel-counted}
 use Rattle.obj_laws.proofs.ObjLateLemmas.{filter-places}
 use Rattle.obj_laws.proofs.ShortNumberLemmas.{coordinates-short, texture-short}
-use Rattle.obj_tags.specs.Channel.{ArePositions, AreTextureValues, late_line, lesser_line}
+use Rattle.obj_tags.specs.Channel.{ArePositions, AreTextureValues, lesser_line}
 use Rattle.obj_tags.specs.Survey.{AreCommon, IsBounded, long_fault_at}
 use Rattle.obj_tags.specs.declared.survey.Survey.{Survey}
 use Rattle.obj_tags.proofs.LateLemmas.{late-channel, late-kept, lesser-late}
@@ -113,7 +114,7 @@ all-values found draft lines is = subst (AreTextureValues found.texture.value dr
 -- Without a late fault, the draft of all lines gives the mesh of the lines.
 pub mesh-draft : (found : Survey) (draft : Draft) (lines : List Line) (least : ℕ) (has : Bool) → AreCommon found least lines
     → IsDraftOf found draft lines (length lines) → has ≡ names_all_texture draft.faces
-    → late_line found.positions.wide draft.positions.long ≡ None → late_line found.texture.wide draft.texture.long ≡ None
+    → option_or found.positions.wide draft.positions.long ≡ None → option_or found.texture.wide draft.texture.long ≡ None
     → mesh_of (coordinates_of found draft) draft.faces has draft.tags ≡ mesh_of_lines lines least
 mesh-draft found draft lines least has are is e_has no-position no-texture =
     let all = of-all found draft lines is in
@@ -125,13 +126,13 @@ mesh-draft found draft lines least has are is e_has no-position no-texture =
 -- the late fault of the lines
 pub late-draft : (found : Survey) (draft : Draft) (lines : List Line) (least : ℕ) → AreCommon found least lines
     → IsDraftOf found draft lines (length lines)
-    → option_map long_fault_at (lesser_line (late_line found.positions.wide draft.positions.long) (late_line found.texture.wide draft.texture.long))
+    → option_map long_fault_at (lesser_line (option_or found.positions.wide draft.positions.long) (option_or found.texture.wide draft.texture.long))
     ≡ first_late_fault least lines
 late-draft found draft lines least are is =
     let positions = late-channel (ℤ × ℤ × ℤ) is_vertex_line point_over (10 ^ least) found.positions (map point_of draft.positions.points.items) draft.positions.long lines are.positions (all-positions found draft lines is) in
     let texture = late-channel (ℤ × ℤ) is_texture_line texture_over 1 found.texture (map texture_of draft.texture.points.items) draft.texture.long lines are.texture (all-values found draft lines is) in
-    lesser-late (late_line found.positions.wide draft.positions.long) (late_line found.texture.wide draft.texture.long)
-    ∙ ap (λ a. lesser_fault a (option_map long_fault_at (late_line found.texture.wide draft.texture.long))) positions
+    lesser-late (option_or found.positions.wide draft.positions.long) (option_or found.texture.wide draft.texture.long)
+    ∙ ap (λ a. lesser_fault a (option_map long_fault_at (option_or found.texture.wide draft.texture.long))) positions
     ∙ ap (lesser_fault (late_fault is_vertex_line (10 ^ least) lines)) texture
 
 -- the numbers that were kept are short, where no line is bad and none is late

@@ -94,11 +94,6 @@ first_long (Some line) number long = Some line
 first_long None number true = Some number
 first_long None number false = None
 
--- The late line of a channel: the first at which it is too wide, or the first with a number that is too long.
-abbrev pub late_line : Option ℕ → Option ℕ → Option ℕ
-late_line (Some line) long = Some line
-late_line None long = long
-
 -- The lesser of two lines, or the only one.
 abbrev pub lesser_line : Option ℕ → Option ℕ → Option ℕ
 lesser_line None b = b

@@ -1,6 +1,7 @@
 -- What the reader kept of the first lines of a text.
 use Rattle.std.specs.Prelude.{ℕ, suc, ◌≡◌, ◌+◌, ◌<◌, ◌≤◌, ◌^◌, List, [], length, map, take, drop, get_or, codes, None, Result}
 use Rattle.std.specs.List.{flat_map}
+use Rattle.std.specs.Option.{option_or}
 use Rattle.sharpness_rules.specs.View.{method_of}
 use Rattle.subdiv_model.specs.Lists.{places}
 use Rattle.subdiv_model.specs.ObjLine.{is_face_line}
@@ -8,7 +9,7 @@ use Rattle.subdiv_model.specs.ObjWord.{corner_point}
 use Rattle.subdiv_model.specs.ObjTag.{tag_creases, tag_corners, tag_indices}
 use Rattle.subdiv_model.specs.ReadObj as model
 use Rattle.subdiv_model.specs.ReadObj.{counts_of, values_of, corner_numbers, tags_named, words_fault, fault_at}
-use Rattle.obj_tags.specs.Channel.{ArePositions, AreTextureValues, late_line}
+use Rattle.obj_tags.specs.Channel.{ArePositions, AreTextureValues}
 use Rattle.obj_tags.specs.Face.{named_textures}
 use Rattle.obj_tags.specs.Kept.{KeptUnless}
 use Rattle.obj_tags.specs.Keyword.{IsKeywordOf}
@@ -55,10 +56,11 @@ pub record IsDraftOf (all : Survey) (draft : Draft) (lines : List Line) (n : ℕ
 abbrev pub coordinates_of : Survey → Draft → Coordinates
 coordinates_of all draft = record { points = draft.positions.points; scale = all.positions.value; texture = draft.texture.points; texture_scale = all.texture.value }
 
--- If neither channel has a late line, the kept numbers are short.
+-- If neither channel has a late line, the kept numbers are short. The late line of a channel is the first at which it is too wide, or else
+-- the first with a number that is too long.
 abbrev pub HasShortNumbers : Survey → Draft → Type 0
 HasShortNumbers all draft =
-    late_line all.positions.wide draft.positions.long ≡ None → late_line all.texture.wide draft.texture.long ≡ None → AreShort (coordinates_of all draft)
+    option_or all.positions.wide draft.positions.long ≡ None → option_or all.texture.wide draft.texture.long ≡ None → AreShort (coordinates_of all draft)
 
 -- The draft has no more than all lines have, and `more` further corners can be numbered.
 pub record HasCapacity (draft : Draft) (all : face.Counts) (more : ℕ) : Type 0 where

@@ -1,6 +1,6 @@
 ghost use Rattle.std.specs.Prelude.{◌≡◌, ◌+◌, ◌<◌, ◌≤◌, ◌^◌, ℕ, List, length, IfErr, OnOk};
 ghost use Rattle.subdiv_model.specs.ObjWord.{corner_parts};
-ghost use Rattle.obj_tags.specs.Corner.{HasParts, IsCornerOf};
+ghost use Rattle.obj_tags.specs.Corner.{HasParts};
 ghost use Rattle.obj_tags.specs.Face.{IsFirst, IsNextCorner, NamesPlaces, AddsCorner, corners_fault, AddsFace};
 ghost use Rattle.obj_tags.specs.Kept.{KeptUnless};
 ghost use Rattle.obj_tags.specs.View.{counts_of};
@@ -69,16 +69,6 @@ fn keep_corner(faces: &mut Faces, places: Places) -> Result<(), LineFault>
     Ok(())
 }
 
-// The first corner of a line, or `next` if there is none yet.
-fn first_of(first: Option<Corner>, next: Corner) -> Option<Corner>
-    ensures { (start word later : List ℕ) → IsFirst first start word → IsCornerOf next word → IsFirst result start later }
-{
-    match first {
-        Some(corner) => Some(corner),
-        None => Some(next),
-    }
-}
-
 /// Keeps the face of an `f` line, given the words after its keyword.
 pub(crate) fn keep_face(
     faces: &mut Faces,
@@ -98,7 +88,7 @@ pub(crate) fn keep_face(
         let next = next_corner(&first, word)?;
         let places = places_of(all, before, next)?;
         keep_corner(faces, places)?;
-        first = first_of(first, next);
+        first = first.or(Some(next));
     }
     faces.starts.push(faces.corners.len() as u32)?;
     Ok(())

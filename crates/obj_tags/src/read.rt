@@ -48,16 +48,6 @@ fn keep_lines(alloc: Global, text: &[u8], all: Survey) -> Result<Draft, ReadFaul
     Ok(draft)
 }
 
-// The late line of a channel: the first at which its common denominator exceeds the bound, else the first with a too long number.
-fn late_line(wide: Option<u32>, long: Option<u32>) -> Option<u32>
-    ensures { result ≡ spec.late_line wide long }
-{
-    match wide {
-        Some(line) => Some(line),
-        None => long,
-    }
-}
-
 // The lesser of two lines, or the only one.
 fn least_line(a: Option<u32>, b: Option<u32>) -> Option<u32>
     ensures { result ≡ spec.lesser_line a b }
@@ -82,8 +72,8 @@ fn finish(draft: Draft, all: Survey) -> Result<RawMesh, ReadFault>
         faces,
         tags,
     } = draft;
-    let late_position = late_line(all.positions.wide, positions.long);
-    let late_texture = late_line(all.texture.wide, texture.long);
+    let late_position = all.positions.wide.or(positions.long);
+    let late_texture = all.texture.wide.or(texture.long);
     if let Some(line) = least_line(late_position, late_texture) {
         return Err(ReadFault::Obj(ObjFault {
             line,

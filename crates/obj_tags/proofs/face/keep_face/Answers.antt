@@ -7,7 +7,7 @@ use Rattle.obj_tags.specs.Face.{IsFirst, named_point, named_textures}
 use Rattle.obj_tags.specs.View.{counts_of}
 use Rattle.obj_tags.specs.Walk.{words_left}
 use Rattle.obj_tags.specs.declared.fault.LineFault.TheVariants.{Cause}
-use Rattle.obj_tags.proofs.FaceLemmas.{bad-corner, bad-places, good-corner, point-kept, textures-kept, corner-of, refused-for}
+use Rattle.obj_tags.proofs.FaceLemmas.{bad-corner, bad-places, good-corner, point-kept, textures-kept, corner-of, first-kept, refused-for}
 use Rattle.obj_tags.proofs.face.keep_face.Goals as goal
 
 pub returns-in_err-next : goal.returns-in_err-next
@@ -45,7 +45,8 @@ loop-word-preserved c =
       points = point-kept before all c.in-Some.word.now now next c.in_ok-places.places c.loop-word.faces.corners.items c.keep_corner.new.faces.corners.items _ left c.loop-word.invariant.points named.1 c.in_ok-keep_corner.ensures.kept.corners;
       textures = textures-kept before all c.in-Some.word.now now next c.in_ok-places.places c.loop-word.faces.texture_corners.items c.keep_corner.new.faces.texture_corners.items _ left c.loop-word.invariant.textures named.1 c.in_ok-keep_corner.ensures.kept.textures;
       starts = c.keep_corner.ensures.starts ∙ c.loop-word.invariant.starts;
-      first = c.first_of-first.ensures start c.in-Some.word.now (get_or next 0 []) first (corner-of start c.in-Some.word.now c.in_ok-next.next good);
+      first = subst (λ corner. IsFirst corner start (get_or next 0 [])) (sym c.or-first.ensures)
+          (first-kept c.loop-word.first c.in_ok-next.next start c.in-Some.word.now (get_or next 0 []) first (corner-of start c.in-Some.word.now c.in_ok-next.next good));
     }
 
 pub returns : goal.returns
