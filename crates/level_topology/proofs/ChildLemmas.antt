@@ -1,8 +1,8 @@
 -- The numbers of points and faces in the whole next level, and the laws of a child.
-use Rattle.std.proofs.Common.{◌≡◌, ℕ, zero, suc, ◌+◌, ◌-◌, ◌<◌, ◌≤◌, Bool, true, nat_eq, List, [], ◌∷◌, length, map, get_or, Some, arith, refl, ap, sym, ◌∙◌, length-append}
+use Rattle.std.proofs.Common.{◌≡◌, ℕ, zero, suc, ◌+◌, ◌-◌, ◌<◌, ◌≤◌, Bool, true, false, nat_eq, nat_lt, List, [], ◌∷◌, length, map, get_or, Some, arith, refl, ap, sym, ◌∙◌, length-append}
 use Rattle.std.specs.List.{All, position, sum_by}
 use Rattle.std.proofs.lemmas.Bool.Decides.{same_from_decides}
-use Rattle.std.proofs.lemmas.Bool.{eqb-true, eq-eqb, ltb-true, lt-ltb, le-ltb, and_parts, and_from}
+use Rattle.std.proofs.lemmas.Bool.{eqb-true, eq-eqb, ltb-true, ltb-false, lt-ltb, le-ltb, and_parts, and_from}
 use Rattle.std.proofs.lemmas.List.{length-map}
 use Rattle.std.proofs.lemmas.List.Sums.{sum_by-cons}
 use Rattle.std.proofs.lemmas.List.Folds.{list_any_at}
@@ -75,6 +75,23 @@ origin-below points faces edges (FromEdge e) h = omega (arith, h)
 pub origin-numbers : (points faces edges : ℕ) (a b : PointOrigin) → IsOriginWithin points faces edges a → IsOriginWithin points faces edges b → nat_eq (point_number points faces a) (point_number points faces b) ≡ same_origin a b
 origin-numbers points faces edges a b ha hb =
     numbers-same (point_number points faces) (numbered_origin points faces) same_origin same_origin-refl same_origin-true a b (origin-of-number points faces edges a ha) (origin-of-number points faces edges b hb)
+
+-- A number in the whole next level is the number of its origin.
+pub number-of-origin : (points faces n : ℕ) → point_number points faces (numbered_origin points faces n) ≡ n
+number-of-origin points faces n = go (nat_lt n points) (nat_lt (n - points) faces) refl refl
+  where
+    go : (p q : Bool) → nat_lt n points ≡ p → nat_lt (n - points) faces ≡ q → point_number points faces (numbered_origin points faces n) ≡ n
+    go true q h k = rw h refl
+    go false true h k = rw (h, k) (omega (arith, ltb-false _ _ h))
+    go false false h k = rw (h, k) (omega (arith, ltb-false _ _ h, ltb-false _ _ k))
+
+pub origin-within : (points faces edges n : ℕ) → n < points + faces + edges → IsOriginWithin points faces edges (numbered_origin points faces n)
+origin-within points faces edges n inside = go (nat_lt n points) (nat_lt (n - points) faces) refl refl
+  where
+    go : (p q : Bool) → nat_lt n points ≡ p → nat_lt (n - points) faces ≡ q → IsOriginWithin points faces edges (numbered_origin points faces n)
+    go true q h k = rw h (ltb-true _ _ h)
+    go false true h k = rw (h, k) (ltb-true _ _ k)
+    go false false h k = rw (h, k) (omega (arith, inside, ltb-false _ _ h, ltb-false _ _ k))
 
 -- Its number there determines the place of a face.
 head-at : (starts : List ℕ) (end i : ℕ) → Ascend starts end → i < length starts → get_or starts 0 0 ≤ get_or starts i 0
