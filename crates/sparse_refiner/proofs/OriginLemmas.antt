@@ -1,7 +1,7 @@
 -- The next level is a child: its points have their origins and its faces their places.
-use Rattle.std.proofs.Common.{◌≡◌, ℕ, ◌+◌, ◌-◌, ◌<◌, Bool, true, false, nat_lt, List, [], ◌∷◌, length, map, get_or, arith, refl, ap, sym, ◌∙◌, subst}
+use Rattle.std.proofs.Common.{◌≡◌, ℕ, ◌+◌, ◌<◌, true, nat_lt, List, [], ◌∷◌, length, map, get_or, arith, refl, ap, sym, ◌∙◌, subst}
 use Rattle.std.specs.List.{list_all}
-use Rattle.std.proofs.lemmas.Bool.{and_parts, ltb-true, ltb-false}
+use Rattle.std.proofs.lemmas.Bool.{and_parts, ltb-true}
 use Rattle.std.proofs.lemmas.List.{get_or-map, get_or_default, length-map}
 use Rattle.std.proofs.lemmas.List.Kept.{AllPairs-from_increasing}
 use Rattle.subdiv_model.specs.Polygons.{Polygon, is_over, polygon_at}
@@ -12,7 +12,7 @@ use Rattle.mesh_laws.proofs.SideLemmas.{distinct-places}
 use Rattle.level_topology.specs.Topology.{Topology, IsTopology}
 use Rattle.level_topology.specs.Child.{PointOrigin, FromVertex, FromFace, FromEdge, IsOriginWithin, IsPlaceWithin, IsChild, origins_along, corner_origins}
 use Rattle.level_topology.specs.ChildTables.{numbered_origin, point_number}
-use Rattle.level_topology.proofs.ChildLemmas.{origin-of-number}
+use Rattle.level_topology.proofs.ChildLemmas.{origin-of-number, number-of-origin, origin-within}
 use Rattle.level_topology.proofs.LawLemmas.{edge-exists}
 use Rattle.level_topology.proofs.FactLemmas.{corners-exist}
 use Rattle.child_slots.specs.Slots.{before_in, corner_at, edge_from, quad_at}
@@ -29,23 +29,6 @@ use Rattle.sparse_level.proofs.NextPointLemmas.{places-within, points-next}
 use Rattle.sparse_level.proofs.PartOfPlacesLemmas.{points-below, points-distinct}
 use Rattle.sparse_refiner.specs.Made.{IsNextLevel, origins_in, places_in, points_in}
 use Rattle.sparse_refiner.proofs.SelfLemmas.{selection}
-
--- the number of an origin
-origin-number : (points faces n : ℕ) → point_number points faces (numbered_origin points faces n) ≡ n
-origin-number points faces n = go (nat_lt n points) (nat_lt (n - points) faces) refl refl
-  where
-    go : (p q : Bool) → nat_lt n points ≡ p → nat_lt (n - points) faces ≡ q → point_number points faces (numbered_origin points faces n) ≡ n
-    go true q h k = rw h refl
-    go false true h k = rw (h, k) (omega (arith, ltb-false _ _ h))
-    go false false h k = rw (h, k) (omega (arith, ltb-false _ _ h, ltb-false _ _ k))
-
-origin-within : (points faces edges n : ℕ) → n < points + faces + edges → IsOriginWithin points faces edges (numbered_origin points faces n)
-origin-within points faces edges n inside = go (nat_lt n points) (nat_lt (n - points) faces) refl refl
-  where
-    go : (p q : Bool) → nat_lt n points ≡ p → nat_lt (n - points) faces ≡ q → IsOriginWithin points faces edges (numbered_origin points faces n)
-    go true q h k = rw h (ltb-true _ _ h)
-    go false true h k = rw (h, k) (ltb-true _ _ k)
-    go false false h k = rw (h, k) (omega (arith, inside, ltb-false _ _ h, ltb-false _ _ k))
 
 four : {i i' j j' k k' l l' : PointOrigin} → i ≡ i' → j ≡ j' → k ≡ k' → l ≡ l' → i ∷ j ∷ k ∷ l ∷ [] ≡ i' ∷ j' ∷ k' ∷ l' ∷ []
 four p q r s = cc
@@ -134,9 +117,9 @@ module _ (t : Topology) (is : IsTopology t) (some : List ℕ) (within : list_all
               let far : j < length (points_in t some) = omega (arith, h, count) in
               let near : i < length (points_in t some) = omega (arith, far, less) in
               let numbers : get_or (points_in t some) i 0 ≡ get_or (points_in t some) j 0 =
-              sym (origin-number points faces (get_or (points_in t some) i 0))
+              sym (number-of-origin points faces (get_or (points_in t some) i 0))
               ∙ ap (point_number points faces) (sym (get_or-map origin (points_in t some) i 0 d near) ∙ alike ∙ get_or-map origin (points_in t some) j 0 d far)
-              ∙ origin-number points faces (get_or (points_in t some) j 0) in
+              ∙ number-of-origin points faces (get_or (points_in t some) j 0) in
               absurd (omega (arith, less, distinct-places (points_in t some) i j (points-distinct t.level (places_in t some) (points_in t some) (sym (points-next t.level some))) near far numbers));
           places_once = λ i j d less h alike.
               let near : i < length (places_in t some) = omega (arith, h, less) in

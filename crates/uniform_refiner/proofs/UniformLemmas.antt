@@ -1,7 +1,7 @@
 -- The points and the faces of the next level have their origins and their places, each its own.
-use Rattle.std.proofs.Common.{◌≡◌, ℕ, ◌+◌, ◌-◌, ◌<◌, Bool, true, false, nat_lt, List, [], ◌∷◌, length, get_or, arith, refl, ap, sym, ◌∙◌, subst}
+use Rattle.std.proofs.Common.{◌≡◌, ℕ, ◌+◌, ◌-◌, ◌<◌, true, false, nat_lt, List, [], ◌∷◌, length, get_or, arith, refl, ap, sym, ◌∙◌, subst}
 use Rattle.std.specs.List.{sum_by}
-use Rattle.std.proofs.lemmas.Bool.{lt-ltb, le-ltb, ltb-true, ltb-false}
+use Rattle.std.proofs.lemmas.Bool.{lt-ltb, le-ltb}
 use Rattle.std.proofs.lemmas.List.FromFn.{get_or-map-range_with_len, length-map-range_with_len}
 use Rattle.subdiv_model.specs.Polygons.{Polygon, polygon_at}
 use Rattle.subdiv_model.specs.Edges.{edges_of}
@@ -11,6 +11,7 @@ use Rattle.level_laws.proofs.FaceLemmas.{child_polygons-length}
 use Rattle.level_topology.specs.Topology.{Topology, IsTopology}
 use Rattle.level_topology.specs.Child.{PointOrigin, FromVertex, FromFace, FromEdge, IsOriginWithin, IsPlaceWithin, IsChild, origins_along, corner_origins}
 use Rattle.level_topology.specs.ChildTables.{numbered_origin, point_number}
+use Rattle.level_topology.proofs.ChildLemmas.{number-of-origin, origin-within}
 use Rattle.level_topology.proofs.LawLemmas.{edge-exists}
 use Rattle.child_slots.specs.Slots.{first_child, corner_at, edge_from, before_in, quad_at, numbered_edge_point}
 use Rattle.uniform_refiner.specs.Uniform.{all_origins, all_places, origins_in}
@@ -36,23 +37,6 @@ origin-edge points faces e =
     let high = le-ltb (points + faces + e) points (omega arith) in
     let past : nat_lt (points + faces + e - points) faces ≡ false = le-ltb (points + faces + e - points) faces (omega arith) in
     rw (high, past) (ap FromEdge n)
-
--- the number of an origin
-origin-number : (points faces n : ℕ) → point_number points faces (numbered_origin points faces n) ≡ n
-origin-number points faces n = go (nat_lt n points) (nat_lt (n - points) faces) refl refl
-  where
-    go : (p q : Bool) → nat_lt n points ≡ p → nat_lt (n - points) faces ≡ q → point_number points faces (numbered_origin points faces n) ≡ n
-    go true q h k = rw h refl
-    go false true h k = rw (h, k) (omega (arith, ltb-false _ _ h))
-    go false false h k = rw (h, k) (omega (arith, ltb-false _ _ h, ltb-false _ _ k))
-
-origin-within : (points faces edges n : ℕ) → n < points + faces + edges → IsOriginWithin points faces edges (numbered_origin points faces n)
-origin-within points faces edges n inside = go (nat_lt n points) (nat_lt (n - points) faces) refl refl
-  where
-    go : (p q : Bool) → nat_lt n points ≡ p → nat_lt (n - points) faces ≡ q → IsOriginWithin points faces edges (numbered_origin points faces n)
-    go true q h k = rw h (ltb-true _ _ h)
-    go false true h k = rw (h, k) (ltb-true _ _ k)
-    go false false h k = rw (h, k) (omega (arith, inside, ltb-false _ _ h, ltb-false _ _ k))
 
 -- the origin of a point, whatever is given in its place
 origin-at : (points faces edges n : ℕ) (d : PointOrigin) → n < points + faces + edges → get_or (all_origins points faces edges) n d ≡ numbered_origin points faces n
@@ -109,7 +93,7 @@ module _ (t : Topology) (is : IsTopology t) where
         origins_once = λ i j d less h alike.
             let far : j < points + faces + edges = omega (arith, h, count) in
             let near : i < points + faces + edges = omega (arith, far, less) in
-            let numbers : i ≡ j = sym (origin-number points faces i) ∙ ap (point_number points faces) (sym (origin-at points faces edges i d near) ∙ alike ∙ origin-at points faces edges j d far) ∙ origin-number points faces j in
+            let numbers : i ≡ j = sym (number-of-origin points faces i) ∙ ap (point_number points faces) (sym (origin-at points faces edges i d near) ∙ alike ∙ origin-at points faces edges j d far) ∙ number-of-origin points faces j in
             absurd (omega (arith, numbers, less));
         places_once = λ i j d less h alike.
             let far : j < sum_by length polygons = omega (arith, h, places-count 0 polygons) in
