@@ -8,7 +8,7 @@ use Rattle.subdiv_model.specs.Level.{Level}
 use Rattle.subdiv_model.specs.Child.{refined_level}
 use Rattle.subdiv_model.specs.Sparse.{FacePredicate, selected}
 use Rattle.subdiv_model.specs.Leaf.{Location, has_pair, is_quad_at, corners_with, pair_at, child_at, leaf_of}
-use Rattle.leaf_laws.specs.FirstLeaf.{IsInGrid, first_corner, first_leaf}
+use Rattle.leaf_laws.specs.FirstLeaf.{IsInGrid, LeafSearch, first_corner, first_leaf}
 use Rattle.leaf_laws.specs.Paths.{IsLeafOn, IsLeastLeaf, is_not_after, is_on_border}
 use Rattle.leaf_laws.proofs.PairLemmas.{child-within}
 use Rattle.leaf_laws.proofs.FirstLemmas.{corner-first, leaf-first}
@@ -85,8 +85,12 @@ one-leaf grid zero base predicate at leaf other (c ∷ path) one two = absurd on
 one-leaf grid (suc further) base predicate at leaf other [] one two = one.1 ∙ sym two.1
 one-leaf grid (suc further) base predicate at leaf other (c ∷ path) one two = one-leaf grid further base predicate (child_at grid (refined_level base at.level) at c) leaf other path one.2 two.2
 
+-- the search with these fields
+abbrev search_of : ℕ → ℕ → Level → FacePredicate → Location → LeafSearch
+search_of grid further base predicate at = record { grid = grid; further = further; base = base; predicate = predicate; at = at }
+
 -- the leaf that is found has the least path
-pub first-least : (grid further : ℕ) (base : Level) (predicate : FacePredicate) (at : Location) → IsInGrid grid at → IsLeastLeaf grid further base predicate at (first_leaf grid further base predicate at)
+pub first-least : (grid further : ℕ) (base : Level) (predicate : FacePredicate) (at : Location) → IsInGrid grid at → IsLeastLeaf (search_of grid further base predicate at) (first_leaf grid further base predicate at)
 first-least grid zero base predicate at is = record { path = []; leads = refl; least = λ other another h. refl }
 first-least grid (suc further) base predicate at is =
     let level = refined_level base at.level in
@@ -96,8 +100,8 @@ first-least grid (suc further) base predicate at is =
     among : is_among (corners_with grid (refined_level base at.level) at) (first_corner grid (refined_level base at.level) at) ≡ true
     among = let here : nat_eq (first_corner grid (refined_level base at.level) at) (first_corner grid (refined_level base at.level) at) ≡ true = grind (arith, nat_tests) in ap (λ cs. is_among cs (first_corner grid (refined_level base at.level) at)) (corner-first grid (refined_level base at.level) at is).begin ∙ rw here refl
 
-    go : (b : Bool) → is_among (selected base predicate at.level) at.number ≡ b → IsLeastLeaf grid further base predicate (child_at grid (refined_level base at.level) at (first_corner grid (refined_level base at.level) at)) (first_leaf grid further base predicate (child_at grid (refined_level base at.level) at (first_corner grid (refined_level base at.level) at)))
-        → IsLeastLeaf grid (suc further) base predicate at (first_leaf grid (suc further) base predicate at)
+    go : (b : Bool) → is_among (selected base predicate at.level) at.number ≡ b → IsLeastLeaf (search_of grid further base predicate (child_at grid (refined_level base at.level) at (first_corner grid (refined_level base at.level) at))) (first_leaf grid further base predicate (child_at grid (refined_level base at.level) at (first_corner grid (refined_level base at.level) at)))
+        → IsLeastLeaf (search_of grid (suc further) base predicate at) (first_leaf grid (suc further) base predicate at)
     go false e behind =
         let found : first_leaf grid (suc further) base predicate at ≡ at = rw e refl in
         record { path = []; leads = (e, found); least = λ other another h. refl }
@@ -124,8 +128,8 @@ first-least grid (suc further) base predicate at is =
                 let less : nat_lt (first_corner grid (refined_level base at.level) at) d ≡ true = grind (arith, nat_tests) in
                 rw less refl
 
-pub leaf-least : (grid depth : ℕ) (base : Level) (predicate : FacePredicate) (at : Location) → IsInGrid grid at → IsLeastLeaf grid depth base predicate at (leaf_of grid depth base predicate at)
-leaf-least grid depth base predicate at is = subst (IsLeastLeaf grid depth base predicate at) (sym (leaf-first grid depth base predicate at is)) (first-least grid depth base predicate at is)
+pub leaf-least : (grid depth : ℕ) (base : Level) (predicate : FacePredicate) (at : Location) → IsInGrid grid at → IsLeastLeaf (search_of grid depth base predicate at) (leaf_of grid depth base predicate at)
+leaf-least grid depth base predicate at is = subst (IsLeastLeaf (search_of grid depth base predicate at)) (sym (leaf-first grid depth base predicate at is)) (first-least grid depth base predicate at is)
 
 -- a location on the border of a face is on the border of its leaf
 pub border-leaf : (grid further : ℕ) (base : Level) (predicate : FacePredicate) (at leaf : Location) (path : List ℕ) → IsInGrid grid at → IsLeafOn grid further base predicate at path leaf

@@ -1,17 +1,14 @@
 //! Laws of the leaves of a location.
 
-ghost use Rattle.std.specs.Prelude.{◌≡◌, ℕ, ◌<◌, length};
-ghost use Rattle.subdiv_model.specs.Leaf.{Location, leaves_within, leaf_of};
-ghost use Rattle.subdiv_model.specs.Level.{Level};
-ghost use Rattle.subdiv_model.specs.Sparse.{FacePredicate};
-ghost use Rattle.leaf_laws.specs.FirstLeaf.{IsInGrid, first_leaf};
+ghost use Rattle.std.specs.Prelude.{◌≡◌, ◌<◌, length};
+ghost use Rattle.leaf_laws.specs.FirstLeaf.{LeafSearch, StartsInGrid, first_leaf_in, leaf_in, leaves_in};
 
 /// Each location of the grid has a leaf.
 pub fn locations_have_leaves()
-    ensures { (grid further : ℕ) (base : Level) (predicate : FacePredicate) (at : Location) → IsInGrid grid at → 0 < length (leaves_within grid further base predicate at) }
+    ensures { (search : LeafSearch) → StartsInGrid search → 0 < length (leaves_in search) }
 {}
 
 /// The leaf of a location is found level by level: each step goes to the least corner whose child face has the location.
 pub fn leaves_are_first()
-    ensures { (grid depth : ℕ) (base : Level) (predicate : FacePredicate) (at : Location) → IsInGrid grid at → leaf_of grid depth base predicate at ≡ first_leaf grid depth base predicate at }
+    ensures { (search : LeafSearch) → StartsInGrid search → leaf_in search ≡ first_leaf_in search }
 {}
