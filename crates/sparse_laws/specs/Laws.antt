@@ -1,5 +1,5 @@
 -- Sparse levels, their inner faces and their tests, for the laws of sparse levels.
-use Rattle.std.specs.Prelude.{ℕ, ◌≡◌, ◌<◌, Bool, true, false, List, length, get_or, IsTrue}
+use Rattle.std.specs.Prelude.{ℕ, suc, ◌≡◌, ◌<◌, Bool, true, false, List, length, get_or, IsTrue}
 use Rattle.std.specs.List.{list_all, list_any}
 use Rattle.subdiv_model.specs.Polygons.{is_over, has_distinct_sides}
 use Rattle.subdiv_model.specs.Edges.{all_sides, edges_of, has_end, is_boundary}
@@ -7,15 +7,16 @@ use Rattle.subdiv_model.specs.Manifold.{is_simple}
 use Rattle.subdiv_model.specs.Level.{Level}
 use Rattle.subdiv_model.specs.Child.{refined_level}
 use Rattle.subdiv_model.specs.Channel.{chaikin_overflows_at}
-use Rattle.subdiv_model.specs.SparseFaults.{points_with_child}
-use Rattle.subdiv_model.specs.Feature.{FaceFacts}
-use Rattle.subdiv_model.specs.Sparse.{FacePredicate, present_points}
+use Rattle.subdiv_model.specs.SparseFaults.{points_with_child, present_faces}
+use Rattle.subdiv_model.specs.Feature.{FaceFacts, facts_of}
+use Rattle.subdiv_model.specs.Sparse.{FacePredicate, present_points, selected}
+use Rattle.subdiv_model.specs.SparseText.{WrittenLevel, written_level}
 use Rattle.mask_laws.specs.SharpBoundary.{has_sharp_boundary}
 use Rattle.part_laws.specs.Parts.{IsWholeAt}
 use Rattle.part_laws.specs.LevelParts.{LevelPart}
 use Rattle.sparse_laws.specs.SparseLevels.{SparseLevel, IsSparse, name_in}
 use Rattle.sparse_laws.specs.NextSparse.{IsNextSparse}
-use Rattle.sparse_laws.specs.Selected.{selected_in, Agrees}
+use Rattle.sparse_laws.specs.Selected.{selected_in, Agrees, OverflowsOn}
 
 -- a sparse level of a base whose corners are points
 pub record SparseRefinement : Type 0 where
@@ -68,6 +69,23 @@ pub record InnerFace (refinement : SparseRefinement) : Type 0 where
   pub exists : face < length refinement.sparse.level.polygons
   pub inner : get_or refinement.sparse.inner face false ≡ true
 
+-- the facts of the face in the uniform level
+abbrev pub uniform_facts : {refinement : SparseRefinement} → InnerFace refinement → FaceFacts
+uniform_facts {refinement} at =
+    facts_of (refined_level refinement.base refinement.sparse.depth) refinement.sparse.depth (get_or refinement.sparse.numbers at.face 0)
+
+-- the faces that the predicate selects at the depth of the sparse level
+abbrev pub selected_at : SparseRefinement → List ℕ
+selected_at refinement = selected refinement.base refinement.predicate refinement.sparse.depth
+
+-- the number of present faces one step after the sparse level
+abbrev pub present_after : SparseRefinement → ℕ
+present_after refinement = present_faces refinement.base refinement.predicate (suc refinement.sparse.depth)
+
+-- the output of the definitions at the depth of the sparse level
+abbrev pub defined_output : SparseRefinement → WrittenLevel
+defined_output refinement = written_level refinement.base refinement.predicate refinement.sparse.depth
+
 -- a test of facts that selects the faces of the predicate at the depth of the level
 pub record AgreeingTest (refinement : SparseRefinement) : Type 0 where
   pub test : FaceFacts → Bool
@@ -76,6 +94,15 @@ pub record AgreeingTest (refinement : SparseRefinement) : Type 0 where
 -- the faces that the test selects
 abbrev pub chosen_by : {refinement : SparseRefinement} → AgreeingTest refinement → List ℕ
 chosen_by {refinement} by = selected_in by.test refinement.sparse
+
+-- a sparse level, with a test that selects the faces of its predicate
+pub record TestedRefinement : Type 0 where
+  pub refinement : SparseRefinement
+  pub by : AgreeingTest refinement
+
+-- the halves of edges overflow at vertex v, which is on a face that the test selects
+abbrev pub OverflowsOnChosen : TestedRefinement → ℕ → Type 0
+OverflowsOnChosen tested v = OverflowsOn tested.refinement.sparse.level (chosen_by tested.by) v
 
 -- the next sparse level by the test
 pub record NextRefinement (refinement : SparseRefinement) : Type 0 where

@@ -4,13 +4,11 @@ ghost use Rattle.std.specs.Prelude.{◌≡◌, ℕ, ◌<◌, true, false, map, g
 ghost use Rattle.subdiv_model.specs.Polygons.{is_over};
 ghost use Rattle.subdiv_model.specs.Sharpness.{Smooth, Infinite};
 ghost use Rattle.subdiv_model.specs.Level.{Level};
-ghost use Rattle.subdiv_model.specs.Child.{refined_level};
-ghost use Rattle.subdiv_model.specs.Feature.{facts_of};
-ghost use Rattle.subdiv_model.specs.Sparse.{FacePredicate, selected};
+ghost use Rattle.subdiv_model.specs.Sparse.{FacePredicate};
 ghost use Rattle.part_laws.specs.Parts.{face_in};
 ghost use Rattle.sparse_laws.specs.SparseLevels.{IsSparse, whole_base};
 ghost use Rattle.sparse_laws.specs.Selected.{facts_in};
-ghost use Rattle.sparse_laws.specs.Laws.{BoundaryEdge, IsWholePoint, SparseRefinement, HasSharpBoundary, InnerFace, AgreeingTest, chosen_by};
+ghost use Rattle.sparse_laws.specs.Laws.{BoundaryEdge, HasSharpBoundary, InnerFace, IsWholePoint, SparseRefinement, TestedRefinement, chosen_by, selected_at, uniform_facts};
 
 /// Every level is sparse level 0 of itself, for each predicate.
 pub fn whole_levels_are_sparse()
@@ -24,14 +22,13 @@ pub fn complete_points_are_whole()
 
 /// An inner face has the same facts in the sparse level and in the uniform level.
 pub fn facts_of_inner_faces_are_the_same()
-    ensures { (refinement : SparseRefinement) (at : InnerFace refinement) → facts_in refinement.sparse at.face
-        ≡ facts_of (refined_level refinement.base refinement.sparse.depth) refinement.sparse.depth (get_or refinement.sparse.numbers at.face 0) }
+    ensures { (refinement : SparseRefinement) (at : InnerFace refinement) → facts_in refinement.sparse at.face ≡ uniform_facts at }
 {}
 
 /// A test selects the faces that the definitions select, for each predicate that agrees with the test at this level.
 pub fn selected_faces_are_the_same()
-    ensures { (refinement : SparseRefinement) (by : AgreeingTest refinement)
-        → map (face_in refinement.sparse.numbers) (chosen_by by) ≡ selected refinement.base refinement.predicate refinement.sparse.depth }
+    ensures { (tested : TestedRefinement)
+        → map (face_in tested.refinement.sparse.numbers) (chosen_by tested.by) ≡ selected_at tested.refinement }
 {}
 
 /// If the boundary of level 0 is infinitely sharp, each edge of one face at a complete point of a sparse level is.
