@@ -2,4 +2,4 @@ use Rattle.sparse_values.proofs.UniformLemmas.{same-denominators}
 use Rattle.sparse_values.proofs.points.denominators_are_uniform.Goals as goal
 
 pub returns : goal.returns
-returns c = same-denominators
+returns c = λ given. same-denominators given.tested.refinement given.tested.by given.scheme
