@@ -1,10 +1,10 @@
 -- The arrays of a caller for a mesh: their lengths, and their contents after the write.
-use Rattle.std.specs.Prelude.{ℕ, ◌≡◌, ◌≤◌, ◌&&◌, Bool, true, nat_le, List, length, map, take, drop, if◌then◌else◌}
-use Rattle.std.specs.List.{flat_map, sum_by}
+use Rattle.std.specs.Prelude.{ℕ, ◌≡◌, ◌≤◌, ◌&&◌, Bool, true, false, nat_le, List, length, map, take, drop, if◌then◌else◌}
+use Rattle.std.specs.List.{All, flat_map, sum_by}
 use Rattle.subdiv_model.specs.ObjMesh.{ObjMesh}
 use Rattle.flat_arrays.specs.Places.{IsSameArray}
 use Rattle.flat_arrays.specs.Words.{natural_of}
-use Rattle.mesh_arrays.specs.Arrays.{point_of, value_of, crease_of, corner_tag_of, boundary_of_code, method_of_code}
+use Rattle.mesh_arrays.specs.Arrays.{point_of, value_of, crease_of, corner_tag_of, boundary_of_code, method_of_code, is_bad_denominator}
 use Rattle.mesh_arrays.specs.declared.places.MeshCounts.{MeshCounts}
 use Rattle.mesh_arrays.specs.declared.places.MeshOptions.{MeshOptions}
 use Rattle.mesh_arrays.specs.declared.places.MeshPlaces.{MeshPlaces}
@@ -47,7 +47,7 @@ pub record AreOptionsOf (mesh : ObjMesh) (options : MeshOptions) : Type 0 where
 abbrev pub IsTextureWritten : ObjMesh → List ℕ → Type 0
 IsTextureWritten mesh out = take (sum_by length mesh.faces) out ≡ flat_map (λ face. face) mesh.texture_corners
 
--- Each array begins with the list of the mesh that it receives, faces one after another.
+-- Each array begins with the list of the mesh that it receives, faces one after another. Each denominator of a sharpness is from 1 to 2^60.
 pub record IsWritten (mesh : ObjMesh) (places : MeshPlaces) : Type 0 where
   pub points : map point_of (take (length mesh.points) places.points.now) ≡ mesh.points
   pub texture : map value_of (take (length mesh.texture) places.texture.now) ≡ mesh.texture
@@ -55,7 +55,9 @@ pub record IsWritten (mesh : ObjMesh) (places : MeshPlaces) : Type 0 where
   pub corners : take (sum_by length mesh.faces) places.corners.now ≡ flat_map (λ face. face) mesh.faces
   pub texture_corners : mesh.has_texture ≡ true → IsTextureWritten mesh places.texture_corners.now
   pub creases : map crease_of (take (length mesh.creases) places.creases.now) ≡ mesh.creases
+  pub crease_denominators : All (λ edge. is_bad_denominator edge.sharpness_den ≡ false) (take (length mesh.creases) places.creases.now)
   pub corner_tags : map corner_tag_of (take (length mesh.corner_tags) places.corner_tags.now) ≡ mesh.corner_tags
+  pub corner_denominators : All (λ point. is_bad_denominator point.sharpness_den ≡ false) (take (length mesh.corner_tags) places.corner_tags.now)
   pub holes : take (length mesh.holes) places.holes.now ≡ mesh.holes
 
 -- The arrays have the addresses and the lengths they had.

@@ -1,7 +1,7 @@
 //! The lists of a mesh, written into arrays.
 
 ghost use Rattle.std.specs.Prelude.{◌≡◌, ◌+◌, ◌*◌, ◌^◌, ◌<◌, ◌≤◌, length, map, take, drop, sum, false, true};
-ghost use Rattle.std.specs.List.{flat_map, sum_by};
+ghost use Rattle.std.specs.List.{All, flat_map, sum_by};
 ghost use Rattle.raw_mesh.specs.View as view;
 ghost use Rattle.sharpness_rules.specs.View.{sharpness_of};
 ghost use Rattle.subdiv_model.specs.Sharpness.{sharpness_of_fraction};
@@ -82,6 +82,7 @@ fn sharp_edge(crease: &Crease) -> SharpEdge
 pub(crate) fn put_creases(creases: &[Crease], out: &mut [SharpEdge])
     requires fits { length creases.now ≤ length out.old }
     ensures written { map crease_of (take (length creases.now) out.new) ≡ map view.crease_of creases.now }
+    ensures good { All (λ edge. is_bad_denominator edge.sharpness_den ≡ false) (take (length creases.now) out.new) }
     ensures rest { drop (length creases.now) out.new ≡ drop (length creases.now) out.old }
     ensures len { length out.new ≡ length out.old }
 {
@@ -105,6 +106,7 @@ fn sharp_point(tag: &CornerTag) -> SharpPoint
 pub(crate) fn put_corner_tags(tags: &[CornerTag], out: &mut [SharpPoint])
     requires fits { length tags.now ≤ length out.old }
     ensures written { map corner_tag_of (take (length tags.now) out.new) ≡ map view.corner_tag_of tags.now }
+    ensures good { All (λ point. is_bad_denominator point.sharpness_den ≡ false) (take (length tags.now) out.new) }
     ensures rest { drop (length tags.now) out.new ≡ drop (length tags.now) out.old }
     ensures len { length out.new ≡ length out.old }
 {
