@@ -21,13 +21,6 @@ use Rattle.uniform_walk.specs.Step.{cause_of}
 use Rattle.sparse_walk.specs.Step.{AgreesBefore, StandsFor, IsReadyFor, IsSparseCause}
 use Rattle.sparse_walk.proofs.MaskLemmas.{kept, by, can-refine}
 
--- a claim about one result follows from a claim about the other
-pub as-step : {T : Type 0} (from : Result T RefineFault) (r : Result T Cause) (P : T → Type 0) (Q : RefineFault → Type 0) (P' : T → Type 0) (Q' : Cause → Type 0)
-    → MatchResult from (λ next. r ≡ Ok next) (λ fault. r ≡ Err (cause_of fault)) → MatchResult from P Q
-    → ((next : T) → P next → P' next) → ((fault : RefineFault) → Q fault → Q' (cause_of fault)) → MatchResult r P' Q'
-as-step (Ok next) r P Q P' Q' is p made refused = subst (λ r. MatchResult r P' Q') (sym is) (made next p)
-as-step (Err fault) r P Q P' Q' is q made refused = subst (λ r. MatchResult r P' Q') (sym is) (refused fault q)
-
 -- a weaker claim about the value of a result
 pub where-made : {T : Type 0} (from : Result T RefineFault) (r : Result T Cause) (P : T → Type 0) (Q : RefineFault → Type 0) (P' : T → Type 0)
     → MatchResult from (λ next. r ≡ Ok next) (λ fault. r ≡ Err (cause_of fault)) → MatchResult from P Q → ((next : T) → P next → P' next) → IfOk r P'

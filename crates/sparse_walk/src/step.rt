@@ -1,38 +1,15 @@
 //! The next sparse level as a step of a walk.
 
-ghost use Rattle.std.specs.Prelude.{◌≡◌, Ok, Err, MatchResult};
-ghost use Rattle.uniform_walk.specs.Step.{cause_of};
-
 use crate::walked::WalkedSparse;
 use feature_select::{FaceTest, SelectRule};
 use level_topology::{Child, FaceFacts, Level};
-use level_walk::{Cause, NextLevel, OverflowKind};
+use level_walk::{Cause, NextLevel};
 use ratio128::Steps;
 use sparse_level::SparseStep;
-use sparse_refiner::{RefineFault, refine_selected};
+use sparse_refiner::refine_selected;
 use std::alloc::Global;
 use std::sync::ledger::Ledger;
-
-// Returns the cause of a walk for a fault of a refinement.
-fn cause_of_fault(fault: RefineFault) -> Cause
-    ensures { result ≡ cause_of fault }
-{
-    match fault {
-        RefineFault::TooLarge(count) => Cause::TooManyFaces { count },
-        RefineFault::Chaikin(_) => Cause::Overflow(OverflowKind::Chaikin),
-        RefineFault::Memory => Cause::Memory,
-    }
-}
-
-// Returns the result, with its fault as the cause of a walk.
-fn made<T>(made: Result<T, RefineFault>) -> Result<T, Cause>
-    ensures { MatchResult made (λ next. result ≡ Ok next) (λ fault. result ≡ Err (cause_of fault)) }
-{
-    match made {
-        Ok(next) => Ok(next),
-        Err(fault) => Err(cause_of_fault(fault)),
-    }
-}
+use uniform_walk::with_cause;
 
 /// The step to the present part of the next level: the child faces at the vertices of the faces that a rule selects. Each
 /// present face is one step of the counter.
@@ -73,7 +50,7 @@ impl<T: FaceTest, F: Fn(&FaceFacts) -> bool, L: Ledger> NextLevel<L> for Sparse<
     ) -> Result<SparseStep, Cause> {
         let parent = level.sparse();
         parent.level().facts();
-        made(refine_selected(alloc, parent, self.rule, steps))
+        with_cause(refine_selected(alloc, parent, self.rule, steps))
     }
 
     fn level(walked: &WalkedSparse) -> &Level {

@@ -3,4 +3,4 @@ pub mod MaskLemmas
 pub mod WholeLemmas
 pub mod LevelLemmas
 pub mod FaultLemmas
-mod StepLemmas
+pub mod StepLemmas

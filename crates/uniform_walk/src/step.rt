@@ -21,8 +21,8 @@ fn cause_of_fault(fault: RefineFault) -> Cause
     }
 }
 
-// Returns the result, with its fault as the cause of a walk.
-fn made<T>(made: Result<T, RefineFault>) -> Result<T, Cause>
+/// Returns the result of a refinement, with its fault as the cause of a walk.
+pub fn with_cause<T>(made: Result<T, RefineFault>) -> Result<T, Cause>
     ensures { MatchResult made (λ next. result ≡ Ok next) (λ fault. result ≡ Err (cause_of fault)) }
 {
     match made {
@@ -64,7 +64,7 @@ impl<L: Ledger> NextLevel<L> for Uniform {
         steps: &mut Steps<L>,
     ) -> Result<Child, Cause> {
         level.facts();
-        made(refine(alloc, level, steps))
+        with_cause(refine(alloc, level, steps))
     }
 
     fn level(walked: &Level) -> &Level {
