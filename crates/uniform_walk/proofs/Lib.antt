@@ -4,3 +4,4 @@ pub mod WholeLemmas
 pub mod LevelLemmas
 pub mod FaultLemmas
 pub mod StepLemmas
+pub mod WalkedLemmas
