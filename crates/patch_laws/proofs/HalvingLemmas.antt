@@ -15,7 +15,7 @@ use Rattle.limit_laws.proofs.SameOverLemmas.{IsSameOver, same-from_over}
 use Rattle.limit_laws.proofs.SameValueLemmas.{same-trans, mask-positive}
 use Rattle.grid_laws.specs.Grids.{grid_at, listed_grid, grid_from}
 use Rattle.patch_laws.specs.Tensors.{tensor_mask, subdivision_weights}
-use Rattle.patch_laws.specs.Laws.{parent_place}
+use Rattle.subdiv_model.specs.Leaf.{in_quad}
 use Rattle.patch_laws.proofs.SplineLemmas.{weights-refined}
 use Rattle.patch_laws.proofs.CombinationLemmas.{combined, listed_weights, weights-listed, combined-same, combined-exchange, combined-refined, combined-over}
 use Rattle.patch_laws.proofs.TensorLemmas.{place_terms, number_at, tensor_sum, tensor-over, each-place, IsGridOver, grid-over, same-sums, from-corner, from-listed}
@@ -141,10 +141,10 @@ pub halved-value : (value next : SourcePoint → Value) → ((s : SourcePoint) �
     → ((i j : ℕ) → i < 4 → j < 4
     → IsSameValue (next (OfPoint (grid_at fine i j)))
     (mask_value value (tensor_mask (subdivision_weights i) (subdivision_weights j) (grid_from c grid) 64)))
-    → IsSameValue (mask_value value (place_mask (2 * m) (parent_place m c (p, q)).0 (parent_place m c (p, q)).1 grid)) (mask_value next (place_mask m p q fine))
+    → IsSameValue (mask_value value (place_mask (2 * m) (in_quad m c (p, q)).0 (in_quad m c (p, q)).1 grid)) (mask_value next (place_mask m p q fine))
 halved-value value next positive next_positive grid fine c m p q listed fine_listed below below_p below_q some same =
     let turned = grid_from c grid in
-    let place = parent_place m c (p, q) in
+    let place = in_quad m c (p, q) in
     let double : 0 < 2 * m = omega arith in
     same-trans (mask_value value (place_mask (2 * m) place.0 place.1 grid)) (mask_value value (place_mask (2 * m) p q turned)) (mask_value next (place_mask m p q fine))
     (place-positive value (2 * m) p q turned positive double)

@@ -14,7 +14,7 @@ use Rattle.limit_laws.proofs.NumberLemmas.{same-number}
 use Rattle.limit_laws.proofs.CommonOverLemmas.{all-split, all-joined, all-of_map, whole, common, mask-over}
 use Rattle.grid_laws.specs.Grids.{grid_at, grid_row, listed_grid, turned_grid, grid_from}
 use Rattle.patch_laws.specs.Tensors.{tensor_mask}
-use Rattle.patch_laws.specs.Laws.{parent_place}
+use Rattle.subdiv_model.specs.Leaf.{in_quad}
 use Rattle.patch_laws.proofs.SplineLemmas.{weights-reversed}
 use Rattle.patch_laws.proofs.CombinationLemmas.{combined, listed_weights, combined-same, combined-exchange, combined-reversed}
 
@@ -189,7 +189,7 @@ module _ (f : SourcePoint → ℤ) (steps : ℕ) where
 -- the places of the child of a corner are places of its parent
 pub from-corner : (f : SourcePoint → ℤ) (m c p q : ℕ) (grid : List (List ℕ)) → c < 4 → p ≤ m → q ≤ m → grid ≡ listed_grid grid
     → weighted_sum f (place_terms (2 * m) p q (grid_from c grid))
-    ≡ weighted_sum f (place_terms (2 * m) (parent_place m c (p, q)).0 (parent_place m c (p, q)).1 grid)
+    ≡ weighted_sum f (place_terms (2 * m) (in_quad m c (p, q)).0 (in_quad m c (p, q)).1 grid)
 from-corner f m zero p q grid below below_p below_q listed = refl
 from-corner f m (suc zero) p q grid below below_p below_q listed = next-corner f (2 * m) p q grid (omega arith) listed
 from-corner f m (suc (suc zero)) p q grid below below_p below_q listed = second-corner f (2 * m) p q grid (omega arith) (omega arith) listed

@@ -1,6 +1,6 @@
 -- Regular faces with values, their children and their corners, for the laws of patches.
 -- Source: Drillolive.
-use Rattle.std.specs.Prelude.{ℕ, suc, zero, ◌-◌, ◌*◌, ◌<◌, ◌≤◌, ℤ, List, IsTrue, length, get_or}
+use Rattle.std.specs.Prelude.{ℕ, suc, zero, ◌<◌, ◌≤◌, ℤ, List, IsTrue, length, get_or}
 use Rattle.std.specs.List.{All}
 use Rattle.subdiv_model.specs.Polygons.{polygon_at}
 use Rattle.subdiv_model.specs.Level.{Level}
@@ -9,9 +9,9 @@ use Rattle.subdiv_model.specs.Mask.{CatmullClark}
 use Rattle.subdiv_model.specs.Refined.{child_values}
 use Rattle.subdiv_model.specs.Value.{Value}
 use Rattle.subdiv_model.specs.Patch.{has_patch, patch_mask}
+use Rattle.subdiv_model.specs.Sparse.{child_number}
 use Rattle.mask_laws.specs.Laws.{IsManifoldWithSharpBoundary}
 use Rattle.limit_laws.specs.Laws.{HasLimit, value_in, values_after}
-use Rattle.grid_laws.specs.Grids.{child_of}
 
 -- The face has a patch, in a manifold whose boundary is infinitely sharp. The values of the points are over denominators above 0.
 pub record PatchFace : Type 0 where
@@ -45,7 +45,7 @@ value_on face m place = patch_at face.level face.values face.face m place
 -- the value of the patch of the child of a corner, in the next level for the values there
 abbrev pub value_on_child : PatchFace → ℕ → ℕ → ℕ × ℕ → Value
 value_on_child face c m place =
-    patch_at (child_level face.level) (child_values face.level CatmullClark face.values) (child_of face.level.polygons face.face c) m place
+    patch_at (child_level face.level) (child_values face.level CatmullClark face.values) (child_number face.level.polygons (face.face, c)) m place
 
 -- the value of the patch of a face for the values that its controls are refined to
 abbrev pub refined_on : RefinedPatchFace → ℕ → ℕ × ℕ → Value
@@ -55,14 +55,7 @@ refined_on face m place = patch_at (refined_level face.base face.k) (values_afte
 abbrev pub refined_on_child : RefinedPatchFace → ℕ → ℕ → ℕ × ℕ → Value
 refined_on_child face c m place =
     patch_at (refined_level face.base (suc face.k)) (values_after face.base face.controls (suc face.k))
-    (child_of (refined_level face.base face.k).polygons face.face c) m place
-
--- the place in the parent, over twice as many steps, of a place (i, j) in the child of a corner
-abbrev pub parent_place : ℕ → ℕ → ℕ × ℕ → ℕ × ℕ
-parent_place m zero place = (place.0, place.1)
-parent_place m (suc zero) place = (2 * m - place.1, place.0)
-parent_place m (suc (suc zero)) place = (2 * m - place.0, 2 * m - place.1)
-parent_place m (suc (suc (suc c))) place = (place.1, 2 * m - place.0)
+    (child_number (refined_level face.base face.k).polygons (face.face, c)) m place
 
 -- the place of a corner of the face
 abbrev pub corner_place : ℕ → ℕ → ℕ × ℕ
