@@ -6,9 +6,10 @@ use Rattle.subdiv_model.specs.Polygons.{Polygon, sides_of, polygon_at}
 use Rattle.subdiv_model.specs.Level.{Level}
 use Rattle.subdiv_model.specs.Child.{edge_point, face_point, child_face, child_level}
 use Rattle.subdiv_model.specs.Patch.{has_patch, patch_points}
+use Rattle.subdiv_model.specs.Sparse.{child_number}
 use Rattle.level_laws.proofs.FaceLemmas.{child_polygons-length, child-stands}
 use Rattle.mask_laws.specs.Laws.{IsManifoldWithSharpBoundary}
-use Rattle.grid_laws.specs.Grids.{from_first, HasQuad, IsGrid, grid_at, inner_corners, grid_from, face_beside, child_grid, child_of}
+use Rattle.grid_laws.specs.Grids.{from_first, HasQuad, IsGrid, grid_at, inner_corners, grid_from, face_beside, child_grid}
 use Rattle.grid_laws.proofs.QuadLemmas.{turned-quad, quad-face}
 use Rattle.grid_laws.proofs.GridLemmas.{level-simple, level-distinct, patch-parts, patch-middle, patch-grid, grid-patch, grid-points, grid-from}
 use Rattle.grid_laws.proofs.ChildQuadLemmas.{edge-back}
@@ -16,7 +17,7 @@ use Rattle.grid_laws.proofs.NextGridLemmas.{next-well, next-grid}
 
 -- the children of a face with a patch are faces of the next level
 pub child-inside : (level : Level) (face c : ℕ) → face < length level.polygons → has_patch level face ≡ true → c < 4
-    → child_of level.polygons face c < length (child_level level).polygons
+    → child_number level.polygons (face, c) < length (child_level level).polygons
 child-inside level face c inside h below =
     let four = (patch-parts level face h).0 in
     let sums = sum_by_more_le length level.polygons face [] inside in
@@ -43,7 +44,7 @@ module _ (level : Level) (well : IsManifoldWithSharpBoundary level) (face : ℕ)
 
   -- the child at a place
   stands : (c : ℕ) → c < 4 → (corners : Polygon) → polygon_at level.polygons face ≡ corners
-      → polygon_at (child_level level).polygons (child_of level.polygons face c)
+      → polygon_at (child_level level).polygons (child_number level.polygons (face, c))
       ≡ child_face level.point_count level.polygons face (get_or (last_of (0, 0) (sides_of corners) ∷ sides_of corners) c (0, 0)) (get_or (sides_of corners) c (0, 0))
   stands c below corners e =
       let four = (patch-parts level face h).0 in
@@ -52,7 +53,7 @@ module _ (level : Level) (well : IsManifoldWithSharpBoundary level) (face : ℕ)
 
   -- the child of a corner is the middle of the child grid from there
   child-middle : (c : ℕ) → c < 4
-      → polygon_at (child_level level).polygons (child_of level.polygons face c) ≡ inner_corners (child_grid level (grid c))
+      → polygon_at (child_level level).polygons (child_number level.polygons (face, c)) ≡ inner_corners (child_grid level (grid c))
   child-middle zero below = stands 0 below (inner_corners (patch_points level face)) (patch-middle level face h) ∙ named own
   child-middle (suc zero) below = stands 1 below (inner_corners (patch_points level face)) (patch-middle level face h) ∙ named (turned-quad own)
   child-middle (suc (suc zero)) below = stands 2 below (inner_corners (patch_points level face)) (patch-middle level face h) ∙ named (turned-quad (turned-quad own))
@@ -63,10 +64,10 @@ module _ (level : Level) (well : IsManifoldWithSharpBoundary level) (face : ℕ)
   child-grid : (c : ℕ) → IsGrid (child_level level) (child_grid level (grid c))
   child-grid c = next-grid level well (grid c) (grid-from level (patch_points level face) c (patch-grid level face well inside h))
 
-  pub child-patch : (c : ℕ) → c < 4 → has_patch (child_level level) (child_of level.polygons face c) ≡ true
-  child-patch c below = grid-patch (child_level level) (child_of level.polygons face c) (child_grid level (grid c)) (child-grid c) (child-middle c below)
+  pub child-patch : (c : ℕ) → c < 4 → has_patch (child_level level) (child_number level.polygons (face, c)) ≡ true
+  child-patch c below = grid-patch (child_level level) (child_number level.polygons (face, c)) (child_grid level (grid c)) (child-grid c) (child-middle c below)
 
   pub child-points : (c : ℕ) → c < 4
-      → patch_points (child_level level) (child_of level.polygons face c) ≡ child_grid level (grid_from c (patch_points level face))
+      → patch_points (child_level level) (child_number level.polygons (face, c)) ≡ child_grid level (grid_from c (patch_points level face))
   child-points c below =
-      grid-points (child_level level) (child_of level.polygons face c) (child_grid level (grid c)) (next-well level well) (child-grid c) (child-middle c below)
+      grid-points (child_level level) (child_number level.polygons (face, c)) (child_grid level (grid c)) (next-well level well) (child-grid c) (child-middle c below)

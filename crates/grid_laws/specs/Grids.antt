@@ -1,7 +1,7 @@
 -- The 16 points around a regular face, as four rows of four: the corners of nine quads with the face in the middle.
 -- Source: Drillolive.
-use Rattle.std.specs.Prelude.{ℕ, zero, suc, ◌≡◌, true, ◌+◌, ◌<◌, List, [], ◌∷◌, IsTrue, length, take, get_or}
-use Rattle.std.specs.List.{list_all, sum_by, position_or_len}
+use Rattle.std.specs.Prelude.{ℕ, zero, suc, ◌≡◌, true, ◌+◌, ◌<◌, List, [], ◌∷◌, IsTrue, length, get_or}
+use Rattle.std.specs.List.{list_all, position_or_len}
 use Rattle.subdiv_model.specs.Polygons.{Polygon, polygon_at, has_side}
 use Rattle.subdiv_model.specs.Level.{Level}
 use Rattle.subdiv_model.specs.Child.{face_point, edge_point}
@@ -110,7 +110,3 @@ pub record HasGridAbout (level : Level) (face : ℕ) (grid : List (List ℕ)) : 
   pub well : IsManifoldWithSharpBoundary level
   pub is : IsGrid level grid
   pub middle : polygon_at level.polygons face ≡ inner_corners grid
-
--- the number in the next level of the child of a corner
-abbrev pub child_of : List Polygon → ℕ → ℕ → ℕ
-child_of polygons face corner = sum_by length (take face polygons) + corner
