@@ -6,6 +6,7 @@ use Rattle.subdiv_model.specs.Edges.{edge_number, edges_of}
 use Rattle.subdiv_model.specs.Sharpness.{Chaikin}
 use Rattle.subdiv_model.specs.Level.{Level}
 use Rattle.subdiv_model.specs.Child.{face_point, edge_point, child_polygons, child_level}
+use Rattle.subdiv_model.specs.Sparse.{child_number}
 use Rattle.level_laws.specs.Children.{Corner}
 use Rattle.part_laws.specs.Parts.{IsWholeAt, renamed, face_in}
 use Rattle.part_laws.specs.LevelParts.{IsLevelPart, LevelPart}
@@ -13,10 +14,6 @@ use Rattle.part_laws.specs.LevelParts.{IsLevelPart, LevelPart}
 -- the numbers of the child faces of a face
 abbrev pub children_of : List Polygon → ℕ → List ℕ
 children_of polygons f = range_with_len (sum_by length (take f polygons)) (length (polygon_at polygons f))
-
--- the number of the first child face of a face
-abbrev pub first_child_place : Level → ℕ → ℕ
-first_child_place level f = sum_by length (take f level.polygons)
 
 -- the numbers of the child faces of the listed faces
 abbrev pub children_in : List Polygon → List ℕ → List ℕ
@@ -65,7 +62,7 @@ faces_next part = children_in part.whole.polygons part.faces
 
 -- the number of the child face of a corner, in the next level of the whole
 abbrev pub child_in_whole : (part : LevelPart) → Corner part.level.polygons → ℕ
-child_in_whole part corner = first_child_place part.whole (face_in part.faces corner.face) + corner.place
+child_in_whole part corner = child_number part.whole.polygons (face_in part.faces corner.face, corner.place)
 
 -- a level that is part of the next level of the part
 pub record NextPart (part : LevelPart) : Type 0 where
