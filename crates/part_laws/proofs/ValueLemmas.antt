@@ -22,7 +22,7 @@ use Rattle.part_laws.specs.Parts.{IsWholeAt, IsWholeAlong, is_corner, renamed, f
 use Rattle.part_laws.specs.LevelParts.{IsLevelPart, LevelPart}
 use Rattle.part_laws.specs.Masks.{source_in, term_in, mask_in}
 use Rattle.part_laws.specs.Children.{IsOverPoints, edge_at, child_name, name_next}
-use Rattle.part_laws.specs.Values.{NextPoint, Old, NewOfFace, NewOfEdge, number_of, Known}
+use Rattle.part_laws.specs.Values.{NextPoint, Old, NewOfFace, NewOfEdge, number_of, SharedItems}
 use Rattle.part_laws.proofs.ListLemmas.{map-agree, map-twice}
 use Rattle.part_laws.proofs.TermLemmas.{is_own, IsMaskIn}
 use Rattle.part_laws.proofs.MaskLemmas.{face-mask-in, edge-mask-in, vertex-mask-in}
@@ -195,20 +195,20 @@ module _ (part : LevelPart) (over : IsOverPoints part) (scheme : Scheme) (x : Ne
       ∙ sym (next-same (mask_in part.name part.faces) (λ m. m) none (λ mask in_mask h. sym h.in_whole))
       ∙ get_or-mapped (mask_in part.name part.faces) (child_masks part.level scheme) (number_of x) none
 
-  pub next-values : (known : Known part (whole_value (pos 0))) → point_value (child_values part.level scheme known.here) (number_of x) ≡ point_value (child_values part.whole scheme known.there) (name_next part (number_of x))
-  next-values known =
-      next-same (mask_value (source_value part.level known.here)) (mask_value (source_value part.whole known.there)) (whole_value (pos 0)) (λ mask in_mask h.
-      value-in part.name part.faces part.level part.whole part.is_part (source_value part.level known.here) (source_value part.whole known.there)
-      (source-values part.name part.faces part.level part.whole part.is_part known.here known.there known.same) mask in_mask h)
+  pub next-values : (shared : SharedItems part (whole_value (pos 0))) → point_value (child_values part.level scheme shared.of_part) (number_of x) ≡ point_value (child_values part.whole scheme shared.of_whole) (name_next part (number_of x))
+  next-values shared =
+      next-same (mask_value (source_value part.level shared.of_part)) (mask_value (source_value part.whole shared.of_whole)) (whole_value (pos 0)) (λ mask in_mask h.
+      value-in part.name part.faces part.level part.whole part.is_part (source_value part.level shared.of_part) (source_value part.whole shared.of_whole)
+      (source-values part.name part.faces part.level part.whole part.is_part shared.of_part shared.of_whole shared.same) mask in_mask h)
 
-  pub next-denominators : (known : Known {X = ℕ} part 1) → get_or (child_denominators part.level scheme known.here) (number_of x) 1 ≡ get_or (child_denominators part.whole scheme known.there) (name_next part (number_of x)) 1
-  next-denominators known =
-      next-same (mask_denominator (source_denominator part.level known.here)) (mask_denominator (source_denominator part.whole known.there)) 1 (λ mask in_mask h.
-      number-in part.name part.faces part.level part.whole part.is_part (source_denominator part.level known.here) (source_denominator part.whole known.there)
-      (source-denominators part.name part.faces part.level part.whole part.is_part known.here known.there known.same) mask in_mask h)
+  pub next-denominators : (shared : SharedItems {X = ℕ} part 1) → get_or (child_denominators part.level scheme shared.of_part) (number_of x) 1 ≡ get_or (child_denominators part.whole scheme shared.of_whole) (name_next part (number_of x)) 1
+  next-denominators shared =
+      next-same (mask_denominator (source_denominator part.level shared.of_part)) (mask_denominator (source_denominator part.whole shared.of_whole)) 1 (λ mask in_mask h.
+      number-in part.name part.faces part.level part.whole part.is_part (source_denominator part.level shared.of_part) (source_denominator part.whole shared.of_whole)
+      (source-denominators part.name part.faces part.level part.whole part.is_part shared.of_part shared.of_whole shared.same) mask in_mask h)
 
-  pub next-supports : (n : ℕ) (known : Known part []) → get_or (child_supports n part.level scheme known.here) (number_of x) [] ≡ get_or (child_supports n part.whole scheme known.there) (name_next part (number_of x)) []
-  next-supports n known =
-      next-same (mask_support n (source_support n part.level known.here)) (mask_support n (source_support n part.whole known.there)) [] (λ mask in_mask h.
-      support-in part.name part.faces part.level part.whole part.is_part n (source_support n part.level known.here) (source_support n part.whole known.there)
-      (source-supports part.name part.faces part.level part.whole part.is_part n known.here known.there known.same) mask in_mask h)
+  pub next-supports : (n : ℕ) (shared : SharedItems part []) → get_or (child_supports n part.level scheme shared.of_part) (number_of x) [] ≡ get_or (child_supports n part.whole scheme shared.of_whole) (name_next part (number_of x)) []
+  next-supports n shared =
+      next-same (mask_support n (source_support n part.level shared.of_part)) (mask_support n (source_support n part.whole shared.of_whole)) [] (λ mask in_mask h.
+      support-in part.name part.faces part.level part.whole part.is_part n (source_support n part.level shared.of_part) (source_support n part.whole shared.of_whole)
+      (source-supports part.name part.faces part.level part.whole part.is_part n shared.of_part shared.of_whole shared.same) mask in_mask h)

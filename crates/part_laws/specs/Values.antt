@@ -46,59 +46,59 @@ pub record NextStep : Type 0 where
   pub point : NextPoint part
 
 -- the number of the point in the next level of the part
-abbrev pub number_here : NextStep → ℕ
-number_here step = number_of step.point
+abbrev pub number_in_part : NextStep → ℕ
+number_in_part step = number_of step.point
 
 -- the number of the point in the next level of the whole
-abbrev pub number_there : NextStep → ℕ
-number_there step = name_next step.part (number_of step.point)
+abbrev pub number_in_whole : NextStep → ℕ
+number_in_whole step = name_next step.part (number_of step.point)
 
 -- the mask of the point in the part; an empty mask if there is no point
-abbrev pub mask_here : NextStep → Mask
-mask_here step = get_or (child_masks step.part.level step.scheme) (number_here step) (mask_of [] 1)
+abbrev pub mask_in_part : NextStep → Mask
+mask_in_part step = get_or (child_masks step.part.level step.scheme) (number_in_part step) (mask_of [] 1)
 
 -- the mask of the point in the whole; an empty mask if there is no point
-abbrev pub mask_there : NextStep → Mask
-mask_there step = get_or (child_masks step.part.whole step.scheme) (number_there step) (mask_of [] 1)
+abbrev pub mask_in_whole : NextStep → Mask
+mask_in_whole step = get_or (child_masks step.part.whole step.scheme) (number_in_whole step) (mask_of [] 1)
 
 -- one item for each point of the part and of the whole, where each corner of the part has the item of its name
-pub record Known {X : Type 0} (part : LevelPart) (default : X) : Type 0 where
-  pub here : List X
-  pub there : List X
-  pub same : (p : ℕ) → IsTrue (is_corner part.level.polygons p) → get_or here p default ≡ get_or there (part.name p) default
+pub record SharedItems {X : Type 0} (part : LevelPart) (default : X) : Type 0 where
+  pub of_part : List X
+  pub of_whole : List X
+  pub same : (p : ℕ) → IsTrue (is_corner part.level.polygons p) → get_or of_part p default ≡ get_or of_whole (part.name p) default
 
 -- values of the points of the part and of the whole
-abbrev pub KnownValues : NextStep → Type 0
-KnownValues step = Known step.part (whole_value (pos 0))
+abbrev pub SharedValues : NextStep → Type 0
+SharedValues step = SharedItems step.part (whole_value (pos 0))
 
 -- the value of the point in the part
-abbrev pub value_here : (step : NextStep) → KnownValues step → Value
-value_here step known = point_value (child_values step.part.level step.scheme known.here) (number_here step)
+abbrev pub value_in_part : (step : NextStep) → SharedValues step → Value
+value_in_part step shared = point_value (child_values step.part.level step.scheme shared.of_part) (number_in_part step)
 
 -- the value of the point in the whole
-abbrev pub value_there : (step : NextStep) → KnownValues step → Value
-value_there step known = point_value (child_values step.part.whole step.scheme known.there) (number_there step)
+abbrev pub value_in_whole : (step : NextStep) → SharedValues step → Value
+value_in_whole step shared = point_value (child_values step.part.whole step.scheme shared.of_whole) (number_in_whole step)
 
 -- common denominators of the points of the part and of the whole
-abbrev pub KnownDenominators : NextStep → Type 0
-KnownDenominators step = Known {X = ℕ} step.part 1
+abbrev pub SharedDenominators : NextStep → Type 0
+SharedDenominators step = SharedItems {X = ℕ} step.part 1
 
 -- the common denominator of the point in the part
-abbrev pub denominator_here : (step : NextStep) → KnownDenominators step → ℕ
-denominator_here step known = get_or (child_denominators step.part.level step.scheme known.here) (number_here step) 1
+abbrev pub denominator_in_part : (step : NextStep) → SharedDenominators step → ℕ
+denominator_in_part step shared = get_or (child_denominators step.part.level step.scheme shared.of_part) (number_in_part step) 1
 
 -- the common denominator of the point in the whole
-abbrev pub denominator_there : (step : NextStep) → KnownDenominators step → ℕ
-denominator_there step known = get_or (child_denominators step.part.whole step.scheme known.there) (number_there step) 1
+abbrev pub denominator_in_whole : (step : NextStep) → SharedDenominators step → ℕ
+denominator_in_whole step shared = get_or (child_denominators step.part.whole step.scheme shared.of_whole) (number_in_whole step) 1
 
 -- supports of the points of the part and of the whole, over a number of control points
-abbrev pub KnownSupports : NextStep → Type 0
-KnownSupports step = Known {X = List ℕ} step.part []
+abbrev pub SharedSupports : NextStep → Type 0
+SharedSupports step = SharedItems {X = List ℕ} step.part []
 
 -- the support of the point in the part, over a number of control points
-abbrev pub support_here : ℕ → (step : NextStep) → KnownSupports step → List ℕ
-support_here controls step known = get_or (child_supports controls step.part.level step.scheme known.here) (number_here step) []
+abbrev pub support_in_part : ℕ → (step : NextStep) → SharedSupports step → List ℕ
+support_in_part controls step shared = get_or (child_supports controls step.part.level step.scheme shared.of_part) (number_in_part step) []
 
 -- the support of the point in the whole, over a number of control points
-abbrev pub support_there : ℕ → (step : NextStep) → KnownSupports step → List ℕ
-support_there controls step known = get_or (child_supports controls step.part.whole step.scheme known.there) (number_there step) []
+abbrev pub support_in_whole : ℕ → (step : NextStep) → SharedSupports step → List ℕ
+support_in_whole controls step shared = get_or (child_supports controls step.part.whole step.scheme shared.of_whole) (number_in_whole step) []

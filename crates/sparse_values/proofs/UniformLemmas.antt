@@ -18,7 +18,7 @@ use Rattle.mesh_laws.proofs.ChildOverLemmas.{levels-over-points}
 use Rattle.part_laws.specs.Parts.{IsWholeAt, is_corner}
 use Rattle.part_laws.specs.Masks.{mask_in}
 use Rattle.part_laws.specs.Children.{IsOverPoints, name_next}
-use Rattle.part_laws.specs.Values.{HasNextPoint, Known, NextPoint, number_of}
+use Rattle.part_laws.specs.Values.{HasNextPoint, SharedItems, NextPoint, number_of}
 use Rattle.part_laws.proofs.ListLemmas.{map-agree, map-twice}
 use Rattle.part_laws.proofs.LevelLemmas.{same-transition}
 use Rattle.part_laws.proofs.JoinLemmas.{corner-of}
@@ -44,10 +44,10 @@ module _ (kept : SparseRefinement) where
       omega (arith, ltb-true _ _ (corner-point level.point_count level.polygons found.0 p kept.is.over found.2), kept.is.points)
 
   -- the corners have the uniform items of their names
-  abbrev known_at : {X : Type 0} (d : X) (items : List X) → Known (part_of kept) d
-  known_at d items = record {
-    here = at_points kept d items;
-    there = items;
+  abbrev shared_at : {X : Type 0} (d : X) (items : List X) → SharedItems (part_of kept) d
+  shared_at d items = record {
+    of_part = at_points kept d items;
+    of_whole = items;
     same = λ p there. get_or-map (λ n. get_or items n d) (present_points kept.base kept.predicate kept.sparse.depth) p 0 d (corner-within p there);
   }
 
@@ -81,18 +81,18 @@ module _ (kept : SparseRefinement) where
     pub same-denominators : (scheme : Scheme) → items_at (next_points_of by) 1 (child_denominators kept.sparse.level scheme (at_points kept 1 (refined_denominators kept.base scheme kept.sparse.depth))) ≡ at_next_points kept 1 (refined_denominators kept.base scheme (suc kept.sparse.depth))
     same-denominators scheme =
         let now = refined_denominators kept.base scheme kept.sparse.depth in
-        let known = known_at 1 now in
-        items-same (child_denominators kept.sparse.level scheme known.here) (refined_denominators kept.base scheme (suc kept.sparse.depth)) 1 (λ x. next-denominators (part_of kept) over-points scheme x known)
+        let shared = shared_at 1 now in
+        items-same (child_denominators kept.sparse.level scheme shared.of_part) (refined_denominators kept.base scheme (suc kept.sparse.depth)) 1 (λ x. next-denominators (part_of kept) over-points scheme x shared)
 
     pub same-supports : (scheme : Scheme) → items_at (next_points_of by) [] (child_supports kept.base.point_count kept.sparse.level scheme (at_points kept [] (refined_supports kept.base scheme kept.sparse.depth))) ≡ at_next_points kept [] (refined_supports kept.base scheme (suc kept.sparse.depth))
     same-supports scheme =
-        let known = known_at [] (refined_supports kept.base scheme kept.sparse.depth) in
-        items-same (child_supports kept.base.point_count kept.sparse.level scheme known.here) (refined_supports kept.base scheme (suc kept.sparse.depth)) [] (λ x. next-supports (part_of kept) over-points scheme x kept.base.point_count known)
+        let shared = shared_at [] (refined_supports kept.base scheme kept.sparse.depth) in
+        items-same (child_supports kept.base.point_count kept.sparse.level scheme shared.of_part) (refined_supports kept.base scheme (suc kept.sparse.depth)) [] (λ x. next-supports (part_of kept) over-points scheme x kept.base.point_count shared)
 
     pub same-values : (scheme : Scheme) (numbers : List ℤ) → items_at (next_points_of by) (whole_value (pos 0)) (child_values kept.sparse.level scheme (at_points kept (whole_value (pos 0)) (refined_values kept.base scheme (control_values numbers) kept.sparse.depth))) ≡ at_next_points kept (whole_value (pos 0)) (refined_values kept.base scheme (control_values numbers) (suc kept.sparse.depth))
     same-values scheme numbers =
-        let known = known_at (whole_value (pos 0)) (refined_values kept.base scheme (control_values numbers) kept.sparse.depth) in
-        items-same (child_values kept.sparse.level scheme known.here) (refined_values kept.base scheme (control_values numbers) (suc kept.sparse.depth)) (whole_value (pos 0)) (λ x. next-values (part_of kept) over-points scheme x known)
+        let shared = shared_at (whole_value (pos 0)) (refined_values kept.base scheme (control_values numbers) kept.sparse.depth) in
+        items-same (child_values kept.sparse.level scheme shared.of_part) (refined_values kept.base scheme (control_values numbers) (suc kept.sparse.depth)) (whole_value (pos 0)) (λ x. next-values (part_of kept) over-points scheme x shared)
 
     -- at a point with all its faces the weight of a transition overflows in both levels or in neither
     weight-alike : (scheme : Scheme) (w : ℕ) → is_corner kept.sparse.level.polygons w ≡ true → IsWholeAt kept.sparse.numbers (refined_level kept.base kept.sparse.depth).polygons ((part_of kept).name w) → transition_overflows_at kept.sparse.level scheme w ≡ transition_overflows_at (refined_level kept.base kept.sparse.depth) scheme ((part_of kept).name w)

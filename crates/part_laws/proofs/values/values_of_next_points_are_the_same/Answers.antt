@@ -2,4 +2,4 @@ use Rattle.part_laws.proofs.ValueLemmas.{next-values}
 use Rattle.part_laws.proofs.values.values_of_next_points_are_the_same.Goals as goal
 
 pub returns : goal.returns
-returns c = λ step known. next-values step.part step.over step.scheme step.point known
+returns c = λ step shared. next-values step.part step.over step.scheme step.point shared
