@@ -18,6 +18,6 @@ pub fn next_faces_are_counted()
 
 /// Halves of edges overflow at some vertex of a selected face exactly if they do at a uniform point with a present child.
 pub fn overflows_are_the_same()
-    ensures here { (tested : TestedRefinement) (v : ℕ) → OverflowsOnChosen tested v → IsTrue (uniform_halves_overflow tested.refinement) }
-    ensures there { (tested : TestedRefinement) → IsTrue (uniform_halves_overflow tested.refinement) → (v : ℕ) × OverflowsOnChosen tested v }
+    ensures uniform { (tested : TestedRefinement) (v : ℕ) → OverflowsOnChosen tested v → IsTrue (uniform_halves_overflow tested.refinement) }
+    ensures sparse { (tested : TestedRefinement) → IsTrue (uniform_halves_overflow tested.refinement) → (v : ℕ) × OverflowsOnChosen tested v }
 {}
