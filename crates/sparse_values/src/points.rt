@@ -28,6 +28,6 @@ pub fn values_are_uniform()
 /// The weight of a transition overflows at some vertex of a selected face exactly if it does at a uniform point with a present
 /// child.
 pub fn transitions_are_uniform()
-    ensures here { (given : SchemeRefinement) (v : ℕ) → WeighsOverIn given v → IsTrue (uniform_weighs_over given) }
-    ensures there { (given : SchemeRefinement) → IsTrue (uniform_weighs_over given) → (v : ℕ) × WeighsOverIn given v }
+    ensures uniform { (given : SchemeRefinement) (v : ℕ) → WeighsOverIn given v → IsTrue (uniform_weighs_over given) }
+    ensures sparse { (given : SchemeRefinement) → IsTrue (uniform_weighs_over given) → (v : ℕ) × WeighsOverIn given v }
 {}
