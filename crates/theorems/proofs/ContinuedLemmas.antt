@@ -13,7 +13,7 @@ use Rattle.far_model.specs.Command.{ReadCommand, Reads, Refine}
 use Rattle.far_model.specs.Answer.{IsAcceptedMesh, points_after, written_tags}
 use Rattle.theorems.specs.Continued.{TaggedText, tagged_text, first_mesh, second_mesh, written_level, written_points, written_texture, HasShortNumbers, FurtherSteps, text_after, text_at_once, vertex_lines}
 use Rattle.theorems.proofs.AnswerLemmas.{IsWrittenOf, bytes-written}
-use Rattle.theorems.proofs.WrittenMeshLemmas.{IsSound, sound, level-corners, goes-on, plain-text, text-back, text-untextured, text-read}
+use Rattle.theorems.proofs.WrittenMeshLemmas.{IsSound, sound, level-corners, is-continuation, plain-text, text-back, text-untextured, text-read}
 use Rattle.theorems.proofs.VertexLineLemmas.{written-vertices}
 
 module _ (given : TaggedText) where
@@ -25,7 +25,7 @@ module _ (given : TaggedText) where
 
   pub continuation : IsContinuation CatmullClark given.options.depth (first_mesh given) (second_mesh given)
   continuation =
-      goes-on (first_mesh given) first-sound given.options.depth (second_mesh given)
+      is-continuation (first_mesh given) first-sound given.options.depth (second_mesh given)
       (subst (λ text. IsReadBack (mesh_level (first_mesh given) given.options.depth) (points_after (first_mesh given) given.options.depth) (read_obj_mesh text 0))
       (sym written.text) (text-back given.options (first_mesh given) given.exact given.tagged first-sound))
 

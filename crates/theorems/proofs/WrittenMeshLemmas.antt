@@ -103,8 +103,8 @@ module _ (mesh : ObjMesh) (is : IsSound mesh) (k : ℕ) where
   level-corners = all-weaker is_simple has_corners some-corners level.polygons (all-simple level.point_count level.polygons level-sharp.manifold)
 
   -- a mesh that is read back continues from the level
-  pub goes-on : (second : ObjMesh) → IsReadBack level (points_after mesh k) second → IsContinuation CatmullClark k mesh second
-  goes-on second back = record {
+  pub is-continuation : (second : ObjMesh) → IsReadBack level (points_after mesh k) second → IsContinuation CatmullClark k mesh second
+  is-continuation second back = record {
     manifold = is.is_mesh;
     proper = is.proper;
     first_common = is.above_zero;

@@ -29,7 +29,7 @@ pub fn tagged_texts_are_read()
 ///
 /// The output has tags and no decimals. If neither run is refused, both answers have these `v` lines. If the first mesh also has no
 /// texture, and both runs have the same option for tags, the answers are one text.
-pub fn refinement_goes_on()
+pub fn depths_add_up()
     ensures levels { (given : TaggedText) (j : ℕ) → refined_level (base_level (second_mesh given)) j
         ≡ refined_level (base_level (first_mesh given)) (given.options.depth + j) }
     ensures points { (given : TaggedText) (j : ℕ) → point_lines (points_after (second_mesh given) j)

@@ -1,5 +1,5 @@
 use Rattle.theorems.proofs.ContinuedLemmas.{levels-again, points-again, lines-again, texts-again}
-use Rattle.theorems.proofs.continued.refinement_goes_on.Goals as goal
+use Rattle.theorems.proofs.continued.depths_add_up.Goals as goal
 
 pub returns-clause-levels : goal.returns-clause-levels
 returns-clause-levels c = levels-again
