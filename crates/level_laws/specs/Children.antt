@@ -1,12 +1,13 @@
 -- The corners, edges and faces of a level and what they become in the next level, for the laws of levels.
-use Rattle.std.specs.Prelude.{◌≡◌, ℕ, ◌+◌, ◌<◌, List, ◌∷◌, length, get_or, take, IsTrue}
-use Rattle.std.specs.List.{list_any, sum_by}
+use Rattle.std.specs.Prelude.{◌≡◌, ℕ, ◌<◌, List, ◌∷◌, length, get_or, IsTrue}
+use Rattle.std.specs.List.{list_any}
 use Rattle.subdiv_model.specs.Lists.{last_of}
 use Rattle.subdiv_model.specs.Polygons.{Polygon, sides_of, same_edge, polygon_at, is_over}
 use Rattle.subdiv_model.specs.Edges.{edges_of, has_end}
 use Rattle.subdiv_model.specs.Sharpness.{Smooth}
 use Rattle.subdiv_model.specs.Level.{Level, edge_sharpness_of}
 use Rattle.subdiv_model.specs.Child.{child_face, child_level, edge_point, face_point}
+use Rattle.subdiv_model.specs.Sparse.{child_number}
 
 -- a corner of a face, by the number of the face and its place in the face
 pub record Corner (polygons : List Polygon) : Type 0 where
@@ -17,7 +18,7 @@ pub record Corner (polygons : List Polygon) : Type 0 where
 
 -- the number of the child face of a corner, which comes after the children of all earlier faces
 abbrev pub child_place : {polygons : List Polygon} → Corner polygons → ℕ
-child_place {polygons} corner = sum_by length (take corner.face polygons) + corner.place
+child_place {polygons} corner = child_number polygons (corner.face, corner.place)
 
 -- the sides of the face of a corner
 abbrev pub sides_at : {polygons : List Polygon} → Corner polygons → List (ℕ × ℕ)
