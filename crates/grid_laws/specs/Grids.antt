@@ -4,8 +4,9 @@ use Rattle.std.specs.Prelude.{ℕ, zero, suc, ◌≡◌, true, ◌+◌, ◌<◌,
 use Rattle.std.specs.List.{list_all, position_or_len}
 use Rattle.subdiv_model.specs.Polygons.{Polygon, polygon_at, has_side}
 use Rattle.subdiv_model.specs.Level.{Level}
-use Rattle.subdiv_model.specs.Child.{face_point, edge_point}
-use Rattle.subdiv_model.specs.Patch.{has_patch, is_regular_in_quads}
+use Rattle.subdiv_model.specs.Child.{child_level, face_point, edge_point}
+use Rattle.subdiv_model.specs.Patch.{has_patch, is_regular_in_quads, patch_points}
+use Rattle.subdiv_model.specs.Sparse.{child_number}
 use Rattle.mask_laws.specs.Laws.{IsManifoldWithSharpBoundary}
 
 -- the point in column i of row j
@@ -110,3 +111,7 @@ pub record HasGridAbout (level : Level) (face : ℕ) (grid : List (List ℕ)) : 
   pub well : IsManifoldWithSharpBoundary level
   pub is : IsGrid level grid
   pub middle : polygon_at level.polygons face ≡ inner_corners grid
+
+-- the points of the patch of the child of a corner
+abbrev pub child_patch_points : Level → ℕ → ℕ → List (List ℕ)
+child_patch_points level face c = patch_points (child_level level) (child_number level.polygons (face, c))

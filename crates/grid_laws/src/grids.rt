@@ -7,7 +7,7 @@ ghost use Rattle.subdiv_model.specs.Child.{child_level};
 ghost use Rattle.subdiv_model.specs.Patch.{has_patch, patch_points};
 ghost use Rattle.subdiv_model.specs.Sparse.{child_number};
 ghost use Rattle.mask_laws.specs.Laws.{IsManifoldWithSharpBoundary};
-ghost use Rattle.grid_laws.specs.Grids.{HasFacePatch, HasGridAbout, IsGrid, child_grid, corner_grid, grid_from, inner_corners};
+ghost use Rattle.grid_laws.specs.Grids.{HasFacePatch, HasGridAbout, IsGrid, child_grid, child_patch_points, corner_grid, grid_from, inner_corners};
 
 /// The points of the patch of a face form a grid with the face in the middle. A face in the middle of a grid has a patch, and the
 /// points of the patch are those of the grid.
@@ -31,5 +31,5 @@ pub fn children_have_patches()
     ensures inside { (level : Level) (face c : ℕ) → face < length level.polygons → IsTrue (has_patch level face) → c < 4
         → child_number level.polygons (face, c) < length (child_level level).polygons }
     ensures patch { (level : Level) (face c : ℕ) → HasFacePatch level face → c < 4 → IsTrue (has_patch (child_level level) (child_number level.polygons (face, c))) }
-    ensures points { (level : Level) (face c : ℕ) → HasFacePatch level face → c < 4 → patch_points (child_level level) (child_number level.polygons (face, c)) ≡ corner_grid level c (patch_points level face) }
+    ensures points { (level : Level) (face c : ℕ) → HasFacePatch level face → c < 4 → child_patch_points level face c ≡ corner_grid level c (patch_points level face) }
 {}
