@@ -1,7 +1,3 @@
-pub mod ScratchLemmas
-pub mod TouchedLemmas
-pub mod PairLemmas
-pub mod EntryLemmas
 pub mod AddedLemmas
 pub mod OriginLemmas
 pub mod FlatLemmas
@@ -26,4 +22,3 @@ pub mod WeightedRowLemmas
 pub mod NarrowLemmas
 pub mod MaskValueLemmas
 pub mod PowerLemmas
-pub mod OrderLemmas

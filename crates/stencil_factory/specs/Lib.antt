@@ -1,7 +1,5 @@
 pub mod Rows
 pub mod Composed
-pub mod Scratch
-pub mod Touched
 pub mod Weights
 pub mod Flat
 pub mod Composing

@@ -1,14 +1,11 @@
 -- The rows of a stencil table: their control points, their denominators, and the values they give for control numbers.
 -- Source: stencil tables of OpenSubdiv's Far layer, with exact weights.
-use Rattle.std.specs.Prelude.{ℕ, ◌≡◌, ◌<◌, ℤ, pos, ◌+ℤ◌, ◌*ℤ◌, List, [], ◌∷◌, length, map, get_or}
+use Rattle.std.specs.Prelude.{ℕ, ◌≡◌, ◌<◌, ℤ, List, length, map}
 use Rattle.std.specs.List.{zip}
 use Rattle.subdiv_model.specs.Value.{Value, IsSameValue}
 use Rattle.subdiv_model.specs.Refined.{point_value}
-use Rattle.stencil_apply.specs.Table.{Share, Table}
-
--- The control points of a row, in the order of its entries.
-abbrev pub support_of : List Share → List ℕ
-support_of shares = map (λ share. share.0) shares
+use Rattle.stencil_apply.specs.Table.{Table}
+pub use Rattle.place_sums.specs.Shares.{support_of, share_sum}
 
 -- The control points of each row.
 abbrev pub supports_of : Table → List (List ℕ)
@@ -17,11 +14,6 @@ supports_of table = map (λ row. support_of row.shares) table.rows
 -- The denominator of each row.
 abbrev pub dens_of : Table → List ℕ
 dens_of table = map (λ row. row.den) table.rows
-
--- The sum of the numerators, each times the number of its control point.
-abbrev pub share_sum : List ℤ → List Share → ℤ
-share_sum numbers [] = pos 0
-share_sum numbers (share ∷ shares) = pos share.1 *ℤ get_or numbers share.0 (pos 0) +ℤ share_sum numbers shares
 
 -- The value of each row for these control numbers.
 abbrev pub row_values : Table → List ℤ → List Value

@@ -3,12 +3,12 @@
 use crate::name::name_point;
 use crate::place_set::PlaceSet;
 use crate::rows::RowMasks;
-use crate::scratch::Scratch;
 use crate::weigh::weigh_mask;
 use child_masks::Survey;
 use level_topology::{Child, Level};
 use mask_rules::{MadeMask, Scheme};
 use number_width::Natural;
+use place_sums::Scratch;
 use ratio128::Memory;
 use std::alloc::Global;
 

@@ -8,16 +8,15 @@ ghost use Rattle.subdiv_model.specs.Channel.{number_bound, entry_bound};
 ghost use Rattle.stencil_apply.specs.Table.{IsRow, entries_of, row_at, total_of};
 ghost use Rattle.stencil_apply.specs.Built.{no_rows, with_row};
 ghost use Rattle.stencil_factory.specs.Rows.{dens_of};
-ghost use Rattle.stencil_factory.specs.Scratch.{added_shares, shares_from, sum_of};
+ghost use Rattle.place_sums.specs.Scratch.{added_shares, shares_from, sum_of};
 ghost use Rattle.stencil_factory.specs.Composing.{added_rows, CanAddRows, IsComposedRow, AreComposedRows};
 ghost use Rattle.stencil_factory.specs.MaskRows.{mask_at, mask_entries, AreFew, AreRowDenominators, AreAdded, IsRowComposition};
 
 use crate::count::count_entries;
-use crate::entries::Entries;
 use crate::row_fault::RowFault;
 use crate::rows::RowMasks;
-use crate::scratch::Scratch;
 use number_width::{Natural, NumberSlice, Width, width_of};
+use place_sums::{Entries, Scratch};
 use ratio128::Memory;
 use ratio128::limits::ENTRY_BOUND;
 use std::alloc::Global;

@@ -5,13 +5,13 @@ ghost use Rattle.std.specs.List.{All, AllByRecursion};
 ghost use Rattle.subdiv_model.specs.Channel.{number_bound};
 ghost use Rattle.mask_rules.specs.View.{source_of, terms_of};
 ghost use Rattle.child_masks.specs.Found.{ArePointDenominators};
-ghost use Rattle.stencil_factory.specs.Scratch.{added_at, added_shares};
+ghost use Rattle.place_sums.specs.Scratch.{added_at, added_shares};
 ghost use Rattle.stencil_factory.specs.Flat.{corner_shares, source_shares, flat_shares, CanAddAll, CanWeigh, CanWeighTerm};
 
-use crate::scratch::Scratch;
 use level_topology::Level;
 use mask_rules::{At, Term};
 use number_width::Natural;
+use place_sums::Scratch;
 use ratio128::quotient;
 
 /// Returns `weight * (multiple / den)`. It skips the division if `den` equals `multiple`.

@@ -7,12 +7,11 @@ ghost use Rattle.stencil_factory.specs.Composing.{IsComposedRow, AreComposedRows
 ghost use Rattle.stencil_factory.specs.MaskRows.{mask_at, AreMaskRows};
 
 use crate::compose::put_entries;
-use crate::entries::Entries;
 use crate::point_masks::{PointMasks, PointWeights};
-use crate::scratch::Scratch;
 use crate::weighted_rows::add_weighted_rows;
 use crate::weights::multiple_of_weights;
 use number_width::Width;
+use place_sums::{Entries, Scratch};
 use ratio128::limits::ENTRY_BOUND;
 use ratio128::{Memory, times_within};
 use std::alloc::Global;

@@ -3,9 +3,9 @@
 use crate::place_set::PlaceSet;
 use crate::point_masks::{PointMasks, PointWeights};
 use crate::rows::RowMasks;
-use crate::scratch::Scratch;
 use crate::weights::{add_weights, name_weights};
 use number_width::Natural;
+use place_sums::Scratch;
 use ratio128::{Memory, quotient};
 use std::alloc::Global;
 

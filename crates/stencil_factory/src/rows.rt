@@ -9,8 +9,8 @@ ghost use Rattle.stencil_factory.specs.Named.{AreNamed};
 ghost use Rattle.stencil_factory.specs.MaskRows.{mask_at};
 
 use crate::place_set::PlaceSet;
-use crate::scratch::Scratch;
 use number_width::Natural;
+use place_sums::Scratch;
 use ratio128::Memory;
 use std::alloc::Global;
 

@@ -12,11 +12,11 @@ ghost use Rattle.child_masks.specs.Found.{ArePointDenominators};
 ghost use Rattle.stencil_factory.specs.Flat.{IsWeighed};
 
 use crate::flat::{add_corners, add_terms};
-use crate::scratch::Scratch;
 use child_masks::{PointMask, Survey};
 use level_topology::{Child, Level};
 use mask_rules::{MadeMask, Scheme, face_mask};
 use number_width::Natural;
+use place_sums::Scratch;
 use ratio128::quotient;
 
 // Adds the weights of the face point of face `f`: one weight for each corner.

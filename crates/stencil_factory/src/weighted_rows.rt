@@ -9,8 +9,8 @@ ghost use Rattle.stencil_factory.specs.Joined.{amounts_of, weighing};
 
 use crate::compose::add_row;
 use crate::flat::weight_over;
-use crate::scratch::Scratch;
 use number_width::Natural;
+use place_sums::Scratch;
 use stencil_apply::StencilTable;
 
 // Adds the row of a point times `weight * (multiple / den)`, where `den` is the point's denominator.

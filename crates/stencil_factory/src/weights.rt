@@ -7,7 +7,7 @@ ghost use Rattle.subdiv_model.specs.Multiples.{lcm_of, lcm_of_all};
 ghost use Rattle.subdiv_model.specs.Channel.{number_bound};
 ghost use Rattle.child_masks.specs.Survey.{within_bound};
 ghost use Rattle.stencil_factory.specs.Rows.{support_of};
-ghost use Rattle.stencil_factory.specs.Scratch.{added_shares};
+ghost use Rattle.place_sums.specs.Scratch.{added_shares};
 ghost use Rattle.stencil_factory.specs.Flat.{CanAddAll};
 ghost use Rattle.stencil_factory.specs.PlaceSet.{with_places};
 ghost use Rattle.stencil_factory.specs.Joined.{amounts_of, weighing};
@@ -15,9 +15,9 @@ ghost use Rattle.stencil_factory.specs.Powers.{IsPower, IsWordPower, IsGreaterPo
 
 use crate::flat::add_point;
 use crate::place_set::PlaceSet;
-use crate::scratch::Scratch;
 use child_masks::common_multiple;
 use number_width::Natural;
+use place_sums::Scratch;
 use ratio128::Memory;
 
 // Returns the least common multiple of `multiple` and the point's denominator, or 0 if it is above 2^126 - 1.

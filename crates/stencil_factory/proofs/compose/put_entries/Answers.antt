@@ -4,7 +4,7 @@ use Rattle.std.proofs.lemmas.Result.{on_ok_weaker}
 use Rattle.std.proofs.lemmas.List.{length-map}
 use Rattle.stencil_apply.specs.Table.{Share, IsRow}
 use Rattle.stencil_apply.specs.Built.{with_row}
-use Rattle.stencil_factory.proofs.PairLemmas.{zip-parts, parts-count}
+use Rattle.place_sums.proofs.PairLemmas.{zip-parts, parts-count}
 use Rattle.stencil_factory.proofs.compose.put_entries.Given as given
 use Rattle.stencil_factory.proofs.compose.put_entries.Goals as goal
 

@@ -1,5 +1,5 @@
 use Rattle.std.proofs.Common.{◌≡◌, arith, get_or, refl, ap, sym, ◌∙◌}
-use Rattle.stencil_factory.specs.Scratch.{added_at, added_shares}
+use Rattle.place_sums.specs.Scratch.{added_at, added_shares}
 use Rattle.stencil_factory.specs.Flat.{corner_shares}
 use Rattle.stencil_factory.proofs.AddedLemmas.{none-left, within-next, first-can, corners-can, corners-same}
 use Rattle.stencil_factory.proofs.flat.add_corners.Goals as goal

@@ -1,7 +1,7 @@
 use Rattle.std.proofs.Common.{arith, ap, length, sym, ◌∙◌, subst}
 use Rattle.child_masks.proofs.FaceLemmas.{face-corners}
 use Rattle.child_masks.proofs.OriginLemmas.{some-corners}
-use Rattle.stencil_factory.specs.Scratch.{added_at, added_shares}
+use Rattle.place_sums.specs.Scratch.{added_at, added_shares}
 use Rattle.stencil_factory.specs.Flat.{CanAddAll}
 use Rattle.stencil_factory.proofs.AddedLemmas.{weigh-point, weigh-face, point-can, point-added, face-shares}
 use Rattle.stencil_factory.proofs.flat.add_term.Goals as goal

@@ -1,6 +1,6 @@
 use Rattle.std.proofs.Common.{ap, sym, ◌∙◌}
 use Rattle.mask_rules.specs.View.{terms_of}
-use Rattle.stencil_factory.specs.Scratch.{added_shares}
+use Rattle.place_sums.specs.Scratch.{added_shares}
 use Rattle.stencil_factory.specs.Flat.{flat_shares}
 use Rattle.stencil_factory.proofs.AddedLemmas.{none-left, weigh-first, weigh-next, term-can, terms-can, terms-same}
 use Rattle.stencil_factory.proofs.flat.add_terms.Goals as goal

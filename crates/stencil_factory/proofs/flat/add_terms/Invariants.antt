@@ -1,7 +1,7 @@
 use Rattle.std.proofs.Common.{◌≡◌, length}
 use Rattle.std.specs.List.{AllByRecursion}
 use Rattle.mask_rules.specs.View.{terms_of}
-use Rattle.stencil_factory.specs.Scratch.{added_shares}
+use Rattle.place_sums.specs.Scratch.{added_shares}
 use Rattle.stencil_factory.specs.Flat.{flat_shares, CanAddAll, CanWeighTerm}
 use Rattle.stencil_factory.proofs.flat.add_terms.Given as goal
 

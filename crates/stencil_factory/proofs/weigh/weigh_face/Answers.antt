@@ -5,7 +5,7 @@ use Rattle.subdiv_model.specs.Mask.{weigh_points}
 use Rattle.sharpness_laws.proofs.MaskValueLemmas.{joined-corners}
 use Rattle.mask_rules.specs.Masks.{corners_over}
 use Rattle.child_masks.proofs.FaceLemmas.{face-corners}
-use Rattle.stencil_factory.specs.Scratch.{added_shares}
+use Rattle.place_sums.specs.Scratch.{added_shares}
 use Rattle.stencil_factory.specs.Flat.{CanAddAll}
 use Rattle.stencil_factory.proofs.KnownLemmas.{known-corners, flat-corners, given-can, given-weighed}
 use Rattle.stencil_factory.proofs.weigh.weigh_face.Goals as goal

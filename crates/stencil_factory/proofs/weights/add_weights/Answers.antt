@@ -1,5 +1,5 @@
 use Rattle.std.proofs.Common.{ap, sym, ◌∙◌, length}
-use Rattle.stencil_factory.specs.Scratch.{added_shares}
+use Rattle.place_sums.specs.Scratch.{added_shares}
 use Rattle.stencil_factory.specs.Joined.{amounts_of, weighing}
 use Rattle.stencil_factory.proofs.AddedLemmas.{none-left}
 use Rattle.stencil_factory.proofs.PutLemmas.{first-can, others-can, others-same, others-inside}

@@ -1,6 +1,6 @@
 use Rattle.std.proofs.Common.{◌≡◌, ◌<◌, length}
 use Rattle.std.specs.List.{All}
-use Rattle.stencil_factory.specs.Scratch.{added_shares}
+use Rattle.place_sums.specs.Scratch.{added_shares}
 use Rattle.stencil_factory.specs.Flat.{CanAddAll}
 use Rattle.stencil_factory.specs.Joined.{amounts_of, weighing}
 use Rattle.stencil_factory.proofs.weights.add_weights.Given as goal

@@ -1,0 +1,5 @@
+pub mod ScratchLemmas
+pub mod EntryLemmas
+pub mod TouchedLemmas
+pub mod PairLemmas
+pub mod OrderLemmas

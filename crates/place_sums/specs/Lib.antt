@@ -1,0 +1,3 @@
+pub mod Shares
+pub mod Scratch
+pub mod Touched
