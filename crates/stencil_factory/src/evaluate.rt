@@ -65,7 +65,7 @@ fn sum_mask<M: PointMasks>(
     masks.put(row, &mut buffers.weights)?;
     let weights = buffers.weights.weights();
     let multiple = multiple_of_row(weights, table.denominators(), powers);
-    add_weighted_rows(table, weights, multiple, &mut buffers.sums);
+    add_weighted_rows(table, weights, multiple, powers, &mut buffers.sums);
     Ok(buffers.weights.denominator() * multiple)
 }
 

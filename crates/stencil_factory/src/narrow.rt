@@ -62,7 +62,7 @@ fn compose_row<M: PointMasks>(
     if den == 0 {
         return Ok(0);
     }
-    add_weighted_rows(table, weights, multiple, &mut buffers.controls);
+    add_weighted_rows(table, weights, multiple, false, &mut buffers.controls);
     buffers.controls.take(&mut buffers.entries)?;
     Ok(den)
 }

@@ -1,7 +1,8 @@
 //! Processes the weights that a caller gave for a mask: their common multiple, the points they name, and the amounts they add. Weights
 //! of 0 are skipped.
 
-ghost use Rattle.std.specs.Prelude.{◌≡◌, ℕ, ◌*◌, ◌/◌, ◌<◌, ◌≤◌, true, [], ◌∷◌, length, map, max, get_or, OnOk};
+ghost use Rattle.std.specs.Prelude.{◌≡◌, ℕ, ◌*◌, ◌/◌, ◌^◌, ◌<◌, ◌≤◌, true, [], ◌∷◌, length, map, max, get_or, OnOk};
+ghost use Rattle.std.specs.Int.{trailing_zeros, w64};
 ghost use Rattle.std.specs.List.{All};
 ghost use Rattle.subdiv_model.specs.Multiples.{lcm_of, lcm_of_all};
 ghost use Rattle.subdiv_model.specs.Channel.{number_bound};
@@ -50,7 +51,8 @@ fn common_multiple_of_weights(weights: &[(u32, u128)], dens: &[u128]) -> u128
 // Returns whether a number is a power of two, from its lowest bits.
 fn is_power(n: u64) -> bool
     requires { 0 < n }
-    ensures { result ≡ true → IsPower n }
+    ensures power { result ≡ true → IsPower n }
+    ensures shifted { result ≡ true → n / 2 ^ trailing_zeros w64 n ≡ 1 }
 {
     n >> n.trailing_zeros() == 1
 }
