@@ -1,5 +1,5 @@
 -- The levels of a channel from 0 on. Each comes from the one before it.
-use Rattle.std.proofs.Common.{◌≡◌, ℕ, zero, suc, ◌+◌, ◌-◌, ◌*◌, ◌<◌, ◌≤◌, Bool, true, false, nat_lt, max, pos, ◌*ℤ◌, List, [], ◌∷◌, length, map, get_or, arith, refl, ap, sym, ◌∙◌, subst}
+use Rattle.std.proofs.Common.{◌≡◌, ℕ, zero, suc, ◌+◌, ◌-◌, ◌*◌, ◌<◌, ◌≤◌, Bool, true, false, nat_lt, max, pos, ◌*ℤ◌, List, [], ◌∷◌, length, map, get_or, replicate, arith, refl, ap, sym, ◌∙◌, subst}
 use Rattle.std.specs.List.{All, AllByRecursion, sum_by, range_with_len}
 use Rattle.std.proofs.Math.Nat.{mul-le-mul_left}
 use Rattle.std.proofs.lemmas.Bool.Decides.{nat_tests}
@@ -33,6 +33,7 @@ use Rattle.channel_refine.proofs.ValueLemmas.{from-dens, kept, alike-own, times}
 pub record IsReached (channel : Channel) (controls : List Row) (k : ℕ) (t : Topology) (rows : List Row) : Type 0 where
   pub base : IsSound channel.base
   pub level : series.IsReached channel.base k t
+  pub complete : t.complete ≡ replicate t.level.point_count true
   pub none : (j : ℕ) → j < k → HasNoFault Values (whole_levels channel) j
   pub dens : dens_of rows ≡ denominators_after channel k
   pub values : (column : ℕ) → StandFor rows column (refined_values channel.base channel.scheme (control_values (column_of column controls)) k)
@@ -79,6 +80,7 @@ reached-none channel base controls is level here short are =
     record {
       base = sound-base base channel.base is level here;
       level = record { level = here; made = λ j h. absurd (omega (arith, h)) };
+      complete = level.complete;
       none = λ j h. absurd (omega (arith, h));
       dens = ones controls 0 channel.base.point_count are.each whole;
       values = λ column. record {
@@ -103,6 +105,12 @@ first-alike [] [] h all = refl
 first-alike (c ∷ controls) [] h all = absurd (omega (arith, h))
 first-alike controls (row ∷ rows) h all = all 0 row (omega arith)
 
+-- every point of the next level is complete
+pub complete-next : (t next : Topology) (child : ChildTopology) → IsRefined t child → next ≡ child.topology → next.complete ≡ replicate next.level.point_count true
+complete-next t next child refined same =
+    subst (λ (some : Topology). some.complete ≡ replicate some.level.point_count true) (sym same)
+    (refined.uniform.complete ∙ ap (λ (level : Level). replicate level.point_count true) (sym refined.uniform.level))
+
 module _ (channel : Channel) (controls : List Row) (k : ℕ) (t : Topology) (rows : List Row) (is : IsReached channel controls k t rows) where
   -- these values can be carried on
   pub reached-values : AreValues (max channel.greatest channel.common) t rows
@@ -126,6 +134,7 @@ module _ (channel : Channel) (controls : List Row) (k : ℕ) (t : Topology) (row
     fine = λ track. no-faults Values tt (whole_levels channel) track k is.none;
     few = λ j h. (is.level.made j h).few;
     level_is = is.level.level;
+    complete = is.complete;
     dens = is.dens;
     values = is.values;
     within = is.within;
@@ -158,6 +167,7 @@ module _ (channel : Channel) (controls : List Row) (k : ℕ) (t : Topology) (row
     reached-next = record {
       base = is.base;
       level = series.reached-next channel.base k t next child is.level refined same;
+      complete = complete-next t next child refined same;
       none = none-more (HasNoFault Values (whole_levels channel)) k is.none (first.none-here Values tt channel k is.none t.level is.level.level (dens_of rows) is.dens (dens_of next_rows) numbers refl);
       dens = next-dens ∙ ap (denominators_after channel) (sym (plus-one k));
       values = λ column.

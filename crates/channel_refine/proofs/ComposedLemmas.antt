@@ -28,7 +28,7 @@ use Rattle.channel_refine.specs.Step.{IsCarried}
 use Rattle.channel_refine.proofs.FaultLemmas.{HasNoFault, has_entry_fault, no-faults}
 use Rattle.channel_refine.proofs.FirstLemmas as first
 use Rattle.channel_refine.proofs.DenominatorLemmas.{IsSound, sharp-base}
-use Rattle.channel_refine.proofs.ChannelLemmas.{none-more, sound-base}
+use Rattle.channel_refine.proofs.ChannelLemmas.{none-more, sound-base, complete-next}
 use Rattle.channel_refine.proofs.IdentityLemmas.{identity-dens, identity-supports, identity-greatest, identity-values, entries-by-support}
 use Rattle.channel_refine.proofs.TableLemmas.{dens-short}
 use Rattle.channel_refine.proofs.UniformLemmas.{AreNextNumbers, next-numbers}
@@ -132,16 +132,11 @@ module _ (channel : Channel) (k : ℕ) (t : Topology) (table : Table) (is : IsRe
           subst (λ masks. AreSameValues (map (mask_value (source_value t.level before)) masks) (row_values next_table some)) (masks-are t child refined channel.scheme)
           (step.composed.values some before (is.values some count))
 
-      next-complete : next.complete ≡ replicate next.level.point_count true
-      next-complete =
-          subst (λ (t : Topology). t.complete ≡ replicate t.level.point_count true) (sym same)
-          (refined.uniform.complete ∙ ap (λ (level : Level). replicate level.point_count true) (sym refined.uniform.level))
-
       pub reached-next : IsReached channel (k + 1) next next_table
       reached-next = record {
         base = is.base;
         level = series.reached-next channel.base k t next child is.level refined same;
-        complete = next-complete;
+        complete = complete-next t next child refined same;
         none = none-more (HasNoFault Tables (whole_levels channel)) k is.none (first.none-here Tables tt channel k is.none t.level is.level.level (dens_of table) is.dens (dens_of next_table) numbers few-entries);
         controls = step.composed.controls ∙ is.controls;
         dens =

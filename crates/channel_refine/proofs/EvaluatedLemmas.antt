@@ -184,6 +184,7 @@ module _ (channel : Channel) (depth : ℕ) (composed : ComposedTable) (is : IsCo
     fine = is.fine;
     few = is.few;
     level_is = is.level_is;
+    complete = is.complete;
     dens = dens-evaluated channel some is.controls made.rows controls are ∙ is.dens;
     values = λ c.
         let numbers = column_of c (control_rows controls) in

@@ -1,6 +1,6 @@
 -- A channel refined to a depth.
 -- Source: this profile.
-use Rattle.std.specs.Prelude.{ℕ, ◌≡◌, ◌+◌, ◌*◌, ◌^◌, ◌<◌, ◌≤◌, ℤ, pos, List, [], length, map, get_or, max, OnOk, Result, MatchResult}
+use Rattle.std.specs.Prelude.{ℕ, ◌≡◌, ◌+◌, ◌*◌, ◌^◌, ◌<◌, ◌≤◌, ℤ, pos, true, List, [], length, map, get_or, max, replicate, OnOk, Result, MatchResult}
 use Rattle.std.specs.List.{All, sum_by, range_with_len}
 use Rattle.subdiv_model.specs.Level.{Level}
 use Rattle.subdiv_model.specs.Child.{refined_level}
@@ -31,12 +31,13 @@ pub record RefinedRows : Type 0 where
   pub level : Topology
   pub rows : List Row
 
--- No level up to the depth has a fault that is asked for, and no level before the last has too many corners. The level is the last one.
--- Each column of the rows contains the values that the definitions refine, over the common denominators.
+-- No level up to the depth has a fault that is asked for, and no level before the last has too many corners. The level is the last one,
+-- and its points are complete. Each column of the rows contains the values that the definitions refine, over the common denominators.
 pub record IsRefinedTo (asked : Asked) (channel : Channel) (controls : List Row) (depth : ℕ) (refined : RefinedRows) : Type 0 where
   pub fine : (track : Track) → channel_faults asked channel track depth ≡ []
   pub few : (k : ℕ) → k < depth → sum_by length (channel_level channel k).polygons ≤ 2 ^ 22
   pub level_is : refined.level.level ≡ channel_level channel depth
+  pub complete : refined.level.complete ≡ replicate refined.level.level.point_count true
   pub dens : dens_of refined.rows ≡ denominators_after channel depth
   pub values : (column : ℕ) → StandFor refined.rows column (refined_values channel.base channel.scheme (control_values (column_of column controls)) depth)
   pub within : AreWithin channel.greatest refined.rows
