@@ -1,3 +1,4 @@
 pub mod AtVertex
+pub mod Bound
 pub mod Limits
 pub mod Smooth

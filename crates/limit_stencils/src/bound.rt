@@ -1,12 +1,12 @@
 //! A bound on the common denominators of the limit points of a level.
 
-ghost use Rattle.std.specs.Prelude.{◌≡◌, ℕ, ◌<◌, ◌≤◌, length, IfSome};
+ghost use Rattle.std.specs.Prelude.{◌≡◌, ◌<◌, ◌≤◌, length, IfSome};
 ghost use Rattle.std.specs.List.{All};
-ghost use Rattle.subdiv_model.specs.Level.{edges_at};
-ghost use Rattle.subdiv_model.specs.Limit.{limit_mask};
 ghost use Rattle.subdiv_model.specs.Multiples.{lcm_of_all};
 ghost use Rattle.subdiv_model.specs.Channel.{number_bound};
 ghost use Rattle.child_masks.specs.Survey.{within_bound};
+ghost use Rattle.stencil_factory.specs.Rows.{dens_of};
+ghost use Rattle.limit_stencils.specs.Bound.{greatest_valence, mask_bound, denominator_bound};
 ghost use Rattle.limit_stencils.specs.Limits.{IsDenominatorBound};
 
 use child_masks::common_multiple;
@@ -32,7 +32,7 @@ fn multiple_of(dens: &[u128]) -> u128
 
 // Returns the greatest number of edges at a point, or 0 for a level without points.
 fn greatest_valence(level: &Level) -> u32
-    ensures { (v : ℕ) → v < level.now.level.point_count → length (edges_at level.now.level v) ≤ result }
+    ensures { result ≡ greatest_valence level.now.level }
 {
     let mut greatest = 0;
     for v in 0..level.points() {
@@ -41,23 +41,24 @@ fn greatest_valence(level: &Level) -> u32
     greatest
 }
 
-// Returns a number above 0 that the denominator of no limit mask of the level passes.
+// Returns the greatest denominator that a limit mask can have, by the greatest number of edges at a point.
 fn mask_bound(level: &Level) -> u128
-    ensures some { 0 < result }
-    ensures each { (v : ℕ) → v < level.now.level.point_count → (limit_mask level.now.level v).denominator ≤ result }
+    ensures { result ≡ mask_bound (greatest_valence level.now.level) }
 {
     let valence = u128::from(greatest_valence(level));
     (valence * (valence + 5)).max(6)
 }
 
-/// Returns a number from 1 to 2^63 - 1 that the common denominator of no limit point of the level passes. Returns `None` if this call
-/// finds none. The call takes no memory.
+/// Returns a number above 0 that the common denominator of no limit point of the level passes. Returns `None` exactly where this number
+/// is above 2^63 - 1. The call takes no memory.
 ///
-/// `table` has a row for each point of the level. The number is the greatest denominator of a limit mask, times the least common multiple
-/// of all denominators of `table`.
+/// `table` has a row for each point of the level. The number is a product. One factor is the least common multiple of all denominators of
+/// `table`. The other factor bounds the denominators of limit masks: it is the greater of 6 and `n * (n + 5)`, where `n` is the greatest
+/// number of edges at a point.
 pub fn denominator_bound(level: &Level, table: &StencilTable) -> Option<u128>
     requires { length table.now.rows ≡ level.now.level.point_count }
-    ensures { IfSome result (IsDenominatorBound level.now.level table.now) }
+    ensures is { result ≡ denominator_bound level.now.level (dens_of table.now) }
+    ensures bound { IfSome result (IsDenominatorBound level.now.level table.now) }
 {
     table.facts();
     let multiple = multiple_of(table.denominators());
