@@ -78,7 +78,7 @@ module _ (mesh : ObjMesh) (depth : ℕ) (composed : ComposedChannel) (is : IsCom
       let here : IsLimitTable last composed.table table = subst (λ level. IsLimitTable level composed.table table) is.composed.level_is limits in
       rows-tested mesh depth composed is masks LimitRows LimitEntries causes (no-cause here.fine) table here.rows
       (λ limits. AreLimitRows mesh depth (record { level = composed.level; table = limits }))
-      (λ good rows. record { good = good; level_is = is.composed.level_is; rows = rows })
+      (λ good rows. record { good = good; level_is = is.composed.level_is; complete = is.composed.complete; rows = rows })
 
 -- the level with its table, or the fault unchanged
 pub with-limits : (mesh : ObjMesh) (depth : ℕ) (level : Topology) (found : Result Table FarFault) (r : Result ComposedChannel FarFault)

@@ -1,5 +1,5 @@
 -- The limit points of a mesh at a depth.
-use Rattle.std.specs.Prelude.{ℕ, ◌≡◌, ◌*◌, ◌≤◌, false, max, Option, None, Result, MatchResult, Vec}
+use Rattle.std.specs.Prelude.{ℕ, ◌≡◌, ◌*◌, ◌≤◌, true, false, max, replicate, Option, None, Result, MatchResult, Vec}
 use Rattle.std.specs.Global.{Global}
 use Rattle.subdiv_model.specs.Base.{base_level}
 use Rattle.subdiv_model.specs.Child.{refined_level}
@@ -35,10 +35,11 @@ limit_fault_of depth (Denominator v) = Overflow LimitRows depth DenominatorOverf
 limit_fault_of depth TooManyEntries = TooLarge LimitEntries
 limit_fault_of depth Memory = model.Memory
 
--- the mesh is not refused, and this is its level at a depth with the table of its limit points
+-- the mesh is not refused, and this is its level at a depth, of complete points, with the table of its limit points
 pub record AreLimitRows (mesh : ObjMesh) (depth : ℕ) (limits : ComposedChannel) : Type 0 where
   pub good : limit_refusal depth mesh ≡ None
   pub level_is : limits.level.level ≡ refined_level (base_level mesh) depth
+  pub complete : limits.level.complete ≡ replicate limits.level.level.point_count true
   pub rows : IsMaskTable mesh depth (limit_masks (refined_level (base_level mesh) depth)) limits.table
 
 -- the level with this table, or the refusal of the mesh
