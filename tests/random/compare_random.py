@@ -49,7 +49,7 @@ from random_frames import Frames
 from random_meshes import Meshes
 from random_tables import Tables
 from reference import reference
-from reference.continued_refinement import refinement_goes_on
+from reference.continued_refinement import continued_texts_agree
 from reference.level import Level
 from reference.limit_points import limits_stay
 from reference.patch import patched_levels
@@ -467,7 +467,7 @@ def compared_with_itself(arguments: argparse.Namespace, lasting_texts: list[byte
     yield limits_stay(program, lasting_texts)
     drawn = drawn_faces(random.Random(f"faces of {seed}"), sources)
     yield patches_agree(program, islice(drawn, arguments.patches))
-    yield refinement_goes_on(program, islice(bases, arguments.continued))
+    yield continued_texts_agree(program, islice(bases, arguments.continued))
 
 
 def arguments_of_run() -> argparse.Namespace:

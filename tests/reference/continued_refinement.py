@@ -99,7 +99,7 @@ def compare(program: Path, data: bytes, steps: tuple[int, int], uv: str) -> Comp
     return next((compared for compared in seen if compared.fault), seen[0])
 
 
-def refinement_goes_on(program: Path, meshes: Iterable[bytes]) -> bool:
+def continued_texts_agree(program: Path, meshes: Iterable[bytes]) -> bool:
     """Whether all meshes have one text after some steps, at once and by way of a text between; prints which have not."""
     ends = Counter()
     for number, data in enumerate(meshes):

@@ -238,7 +238,7 @@ def common_with(common: int, values: list[Fraction]) -> int:
     return common
 
 
-def late_line(channel: ReadLines, common: int) -> int | None:
+def line_of_late_fault(channel: ReadLines, common: int) -> int | None:
     """The line of a channel's late fault, None where it has none. A channel has its lines in order, each with its
     number and its values, and a common denominator to begin with. The fault is at the line that takes the common
     denominator past 10^37, or else at the first with a number that is too long over it."""
@@ -287,9 +287,9 @@ def read_obj(data: bytes, scale: int = 0) -> Mesh:
             raise Fault(fault.cause, number) from None
         before[words[0]] += 1
     starts = {b"v": 10**scale, b"vt": 1}
-    late = [late_line(channel, starts[name]) for name, channel in channels.items()]
-    if any(late):
-        raise Fault("number out of range", min(filter(None, late)))
+    late_faults = [line_of_late_fault(channel, starts[name]) for name, channel in channels.items()]
+    if any(late_faults):
+        raise Fault("number out of range", min(filter(None, late_faults)))
     mesh.points, mesh.common = over_common(channels[b"v"], starts[b"v"])
     mesh.texture, mesh.texture_common = over_common(channels[b"vt"], starts[b"vt"])
     mesh.has_texture = bool(textured) and all(None not in numbers for numbers in textured)
