@@ -1,6 +1,6 @@
 //! Lists of numbers, each beside a list of equal length, packed into three arrays.
 
-ghost use Rattle.std.specs.Prelude.{◌≡◌, ◌+◌, ◌^◌, ◌<◌, ◌≤◌, List, [], ◌∷◌, ◌++◌, length, map, get_or, IfOk, OnOk, vec_len};
+ghost use Rattle.std.specs.Prelude.{◌≡◌, ◌+◌, ◌^◌, ◌<◌, ◌≤◌, List, [], ◌∷◌, ◌++◌, length, map, get_or, IfOk, OnOk, OnErr, vec_len};
 ghost use Rattle.std.specs.Vec.{vec_capacity};
 ghost use Rattle.std.specs.List.{sum_by};
 ghost use Rattle.level_topology.specs.Packed.{Ascend, pieces, gaps};
@@ -149,7 +149,7 @@ impl<T: Copy> PackedLists<T> {
         self.items.len()
     }
 
-    /// Makes room for `lists` further lists and `items` further items in all. `Memory`: memory ran out, and all lists remain.
+    /// Makes room for `lists` further lists and `items` further items in all. `Memory`: memory ran out, and the lists are unchanged.
     pub fn make_room(&mut self, lists: u32, items: u32) -> Result<(), Memory>
         requires few { length self.old.lists + lists < 2 ^ 32 }
         requires short { sum_by length self.old.lists + items < 2 ^ 32 }
@@ -157,6 +157,7 @@ impl<T: Copy> PackedLists<T> {
         ensures beside { self.new.beside ≡ self.old.beside }
         ensures list_room { OnOk result (length self.new.lists + lists ≤ self.new.list_limit) }
         ensures item_room { OnOk result (sum_by length self.new.lists + items ≤ self.new.item_limit) }
+        ensures unchanged { OnErr result (self.new ≡ self.old) }
     {
         self.starts.reserve(lists as usize)?;
         self.items.reserve(items as usize)?;
