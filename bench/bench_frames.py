@@ -104,12 +104,13 @@ def coordinates(path: Path) -> list[bytes]:
 
 
 def moved_points(kind: Kind, count: int, frames: int) -> Iterator[Sequence[int]]:
-    """Of each frame the numbers of the points that it moves."""
+    """Of each frame the numbers of the points that it moves. All points, and those near each other, are in the order of the
+    mesh, in which an animation program writes them."""
     far_apart = list(scattered(count))
     size = min({NONE: 0, ONE: 1, ALL: count}.get(kind, MANY), count)
     for number in range(frames):
         first = number * size
-        if kind is SIDE_BY_SIDE:
+        if kind in (SIDE_BY_SIDE, ALL):
             yield range(first % (count - size + 1), first % (count - size + 1) + size)
         else:
             yield [far_apart[(first + place) % count] for place in range(size)]

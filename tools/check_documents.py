@@ -77,7 +77,6 @@ NOT_RUN = {
     "sed -i *": "it is for a repository of one's own",
     "rt *": "it proves, or changes what is kept of proofs",
     "bench/bench.py*": "it takes many minutes, and prints times",
-    "bench/colliding_edges.py*": "it searches for minutes",
     "tests/random/compare_random.py*": "it is run by .ci/run",
     "tests/run/run_cases.py*": "it is run by .ci/run",
     "tests/run/refuse_memory.py*": "it needs a C compiler",
