@@ -1,15 +1,11 @@
 -- The progress of a program that answers line by line.
 -- Source: Drillolive.
 use Rattle.std.specs.Prelude.{◌≡◌, ℕ, Bool, true, not, List, [], ◌∷◌, ◌++◌, Some, None}
-use Rattle.std.specs.List.{list_any, list_all, flat_map}
-use Rattle.subdiv_model.specs.ObjLine.{is_lf}
+use Rattle.std.specs.List.{list_all, flat_map}
 use Rattle.subdiv_model.specs.Fault.{Fault}
+pub use Rattle.subdiv_model.specs.ReadTable.{has_line as has_lf}
 use Rattle.far_model.specs.Refusal.{refused}
 use Rattle.far_model.specs.Stream.{LineRule, answer_from}
-
--- one of the bytes is LF
-abbrev pub has_lf : List ℕ → Bool
-has_lf bytes = list_any is_lf bytes
 
 -- no line contains LF, so LF can close each
 abbrev pub are_lines : List (List ℕ) → Bool
