@@ -10,37 +10,13 @@ ghost use Rattle.level_topology.specs.Topology.{side_at};
 ghost use Rattle.level_builder.specs.NumberedEdges.{low_first, numbers_in};
 ghost use Rattle.level_topology.specs.Numbering.{number_in, with_side, with_sides};
 
+use crate::hashing::KeyedHashing;
 use indexmap::IndexSet;
 use level_topology::corner_after;
 use ratio128::Memory;
 use sharpness_rules::Sharpness;
 use std::alloc::Global;
-use std::hash::{BuildHasher, DefaultHasher, Hasher};
 use std::marker::Model;
-
-// A hash under a key: nobody can choose the collisions without knowing the key.
-#[derive(Clone, Copy)]
-pub(crate) struct KeyedHashing {
-    keyed: DefaultHasher,
-}
-
-impl KeyedHashing {
-    pub(crate) fn new(key: u128) -> KeyedHashing {
-        let mut keyed = DefaultHasher::new();
-        keyed.write_u128(key);
-        KeyedHashing { keyed }
-    }
-}
-
-impl BuildHasher for KeyedHashing {
-    type Hasher = DefaultHasher;
-
-    ghost build_hasher = { λ s. s.keyed };
-
-    fn build_hasher(&self) -> DefaultHasher {
-        self.keyed
-    }
-}
 
 // The edges so far. An edge with one face has the number of that face twice.
 #[derive(Drop)]

@@ -6,6 +6,7 @@
 
 mod builder;
 mod edges;
+mod hashing;
 mod key;
 
 pub use builder::LevelBuilder;
