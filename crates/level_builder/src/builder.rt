@@ -71,11 +71,12 @@ fn make_room(
     ensures hole_room { OnOk result (vec_len holes.new < vec_capacity holes.new) }
     ensures edge_room { OnOk result (length edges.new.ends + corners ≤ edges.new.limit) }
     ensures number_room { OnOk result (vec_len numbers.new + corners ≤ vec_capacity numbers.new) }
+    ensures edges_unchanged { OnErr result (edges.new ≡ edges.old) }
 {
     faces.make_room(1, corners)?;
     holes.reserve(1)?;
-    edges.make_room(corners)?;
     numbers.reserve(corners as usize)?;
+    edges.make_room(corners)?;
     Ok(())
 }
 

@@ -1,6 +1,6 @@
 //! The edges of successive faces, numbered as they first appear.
 
-ghost use Rattle.std.specs.Prelude.{◌≡◌, ◌+◌, ◌^◌, ◌<◌, ◌≤◌, true, false, [], ◌∷◌, ◌++◌, length, map, get_or, slice_set, IfOk, OnOk, MatchOption, vec_len};
+ghost use Rattle.std.specs.Prelude.{◌≡◌, ◌+◌, ◌^◌, ◌<◌, ◌≤◌, true, false, [], ◌∷◌, ◌++◌, length, map, get_or, slice_set, IfOk, OnOk, OnErr, MatchOption, vec_len};
 ghost use Rattle.std.specs.Vec.{vec_capacity};
 ghost use Rattle.std.specs.List.{list_any, position_or_len};
 ghost use Rattle.subdiv_model.specs.Polygons.{same_side, same_edge, sides_of};
@@ -113,6 +113,7 @@ impl NumberedEdges {
         ensures faces { self.new.faces ≡ self.old.faces }
         ensures sharpness { self.new.sharpness ≡ self.old.sharpness }
         ensures room { OnOk result (length self.new.ends + more ≤ self.new.limit) }
+        ensures unchanged { OnErr result (self.new ≡ self.old) }
     {
         self.keys.reserve(more as usize)?;
         self.ends.reserve(more as usize)?;
