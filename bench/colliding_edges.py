@@ -1,7 +1,8 @@
 """Edges that collide under a known key: pairs of numbers whose hashes under the key 0 lie near each other.
 
-The hash is SipHash with one round a word and three at the end, as the map of edges takes it. All hashes of a list are
-computed at once, each in 128 bits of one number, of which the lower 64 are kept."""
+The hash is SipHash of the blocks of 8 numbers, with one round a word and three at the end, as the map of edges takes it.
+The places in the blocks change bits of the tag. All hashes of a list are computed at once, each in 128 bits of one
+number, of which the lower 64 are kept."""
 
 from __future__ import annotations
 
@@ -30,14 +31,19 @@ def with_word(v: tuple[int, ...], word: int, kept: int) -> tuple[int, ...]:
     return a ^ word, b, c, d
 
 
+def places_in_blocks(low: int, high: int) -> int:
+    """What the places of two numbers in their blocks change: six bits of the tag."""
+    return low % 8 << 24 ^ high % 8 << 27
+
+
 def hashes(pairs: list[tuple[int, int]]) -> list[int]:
     """The hashes of pairs of numbers after the key 0, folded to 32 bits as the map takes them."""
     ones = int.from_bytes(struct.pack("<QQ", 1, 0) * len(pairs), "little")
     kept = ones * ONE_WORD
-    words = int.from_bytes(b"".join(struct.pack("<IIQ", *pair, 0) for pair in pairs), "little")
+    words = int.from_bytes(b"".join(struct.pack("<IIQ", low // 8, high // 8, 0) for low, high in pairs), "little")
     keyed = with_word(with_word(SIP_START, 0, ONE_WORD), 0, ONE_WORD)
     v = tuple(ones * part for part in keyed)
-    # the pair, and the number of bytes that were written
+    # the blocks, and the number of bytes that were written
     for word in (words, ones * (24 << 56)):
         v = with_word(v, word, kept)
     v = (*v[:2], v[2] ^ ones * 0xFF, v[3])
@@ -45,12 +51,12 @@ def hashes(pairs: list[tuple[int, int]]) -> list[int]:
         v = sip_round(v, kept)
     whole = v[0] ^ v[1] ^ v[2] ^ v[3]
     parts = struct.unpack(f"<{4 * len(pairs)}I", whole.to_bytes(16 * len(pairs), "little"))
-    return [low ^ high for low, high in zip(parts[::4], parts[1::4])]
+    return [low ^ high ^ places_in_blocks(*pair) for low, high, pair in zip(parts[::4], parts[1::4], pairs)]
 
 
 def colliding_pairs(count: int, numbers: int) -> list[tuple[int, int]]:
     """Pairs of numbers that share none, with hashes in one sixteenth of a map of three times as many pairs. The map has
-    groups of 16 places, a power of two of them, with at most nine keys on average."""
+    groups of 12 places, a power of two of them, with at most nine keys on average."""
     groups = 1
     while 9 * groups < 3 * count:
         groups *= 2
