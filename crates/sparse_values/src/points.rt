@@ -1,7 +1,8 @@
 //! Laws of the points of the next sparse level: the masks of the sparse level give them what uniform refinement gives.
 
 ghost use Rattle.std.specs.Prelude.{◌≡◌, ℕ, ◌<◌, ℤ, List, length, IsTrue};
-ghost use Rattle.sparse_values.specs.Uniform.{next_point, next_points_in, sparse_denominators, sparse_mask, sparse_supports, sparse_values, uniform_denominators, uniform_mask, uniform_supports, uniform_values, uniform_weighs_over, SchemeRefinement, WeighsOverIn};
+ghost use Rattle.sparse_values.specs.Uniform.{SchemeRefinement, WeighsOverIn, next_point, next_points_in, sparse_denominators, sparse_mask, sparse_supports, sparse_values};
+ghost use Rattle.sparse_values.specs.Uniform.{uniform_denominators, uniform_mask, uniform_supports, uniform_values, uniform_weighs_over};
 
 /// The mask of each point of the next sparse level has the weights of the mask of the uniform point, in the same order. Its sources
 /// are those of the uniform level.
