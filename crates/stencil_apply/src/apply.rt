@@ -4,7 +4,7 @@ ghost use Rattle.std.specs.Prelude.{◌≡◌, ℕ, ◌+◌, ◌-◌, ◌*◌, �
 ghost use Rattle.std.specs.List.{All, zip};
 ghost use Rattle.subdiv_model.specs.Channel.{number_bound};
 ghost use Rattle.ratio128.specs.Numbers.{zeros, greatest_amount};
-ghost use Rattle.stencil_apply.specs.Table.{row_at, entries_of, greatest_of, rows_in, sum_of_shares, sum_of_row};
+ghost use Rattle.stencil_apply.specs.Table.{row_at, entries_of, greatest_of, rows_in, sum_of_shares, row_sum};
 ghost use Rattle.number_width.specs.declared.width.Width.TheVariants.{Narrow};
 ghost use Rattle.stencil_apply.specs.Means.{CanSum, CanSumNarrow, word_bound, sum_width_of};
 
@@ -127,7 +127,7 @@ pub fn sum_at<P: Primvar<L>, L: Ledger>(
     requires same_length { All (λ control. length (P.numbers control) ≡ length (P.numbers like.now)) controls.now }
     requires fits { All (λ control. greatest_of table.now * greatest_amount (P.numbers control) ≤ number_bound) controls.now }
     requires narrow { width ≡ Narrow → CanSumNarrow table.now (map P.numbers controls.now) }
-    ensures sum { P.numbers result ≡ sum_of_row (zeros (P.numbers like.now)) (map P.numbers controls.now) (row_at table.now row) }
+    ensures sum { P.numbers result ≡ row_sum table.now row (map P.numbers controls.now) (P.numbers like.now) }
     ensures steps { steps.new ≡ steps.old + length (row_at table.now row).shares }
 {
     table.facts();
@@ -171,7 +171,8 @@ pub fn apply_range<P: Primvar<L>, L: Ledger>(
     requires places { length out.old ≡ to - from }
     requires same_length { All (λ place. All (λ control. length (P.numbers control) ≡ length (P.numbers place)) controls.now) out.old }
     requires fits { All (λ control. greatest_of table.now * greatest_amount (P.numbers control) ≤ number_bound) controls.now }
-    ensures sums { (k : ℕ) (d : P) → k < length out.old → P.numbers (slice_index_or out.new k d) ≡ sum_of_row (zeros (P.numbers (slice_index_or out.old k d))) (map P.numbers controls.now) (row_at table.now (from + k)) }
+    ensures sums { (k : ℕ) (d : P) → k < length out.old
+        → P.numbers (slice_index_or out.new k d) ≡ row_sum table.now (from + k) (map P.numbers controls.now) (P.numbers (slice_index_or out.old k d)) }
     ensures len { length out.new ≡ length out.old }
     ensures steps { steps.new ≡ steps.old + entries_of (rows_in table.now from to) }
 {
