@@ -3,8 +3,8 @@ use Rattle.std.proofs.Common.{◌≡◌, ℕ, zero, suc, ◌+◌, ◌*◌, ◌<�
 use Rattle.std.specs.List.{zip}
 use Rattle.std.proofs.lemmas.List.{drop_more, at_drop_all, get_or-map}
 use Rattle.stencil_apply.specs.Table.{Share, total_of}
-use Rattle.place_sums.specs.Scratch.{added_at, added_shares, sum_of}
-use Rattle.place_sums.proofs.ScratchLemmas.{sum-added_at, total-first}
+use Rattle.place_sums.specs.Sums.{added_at, added_shares, sum_of}
+use Rattle.place_sums.proofs.SumLemmas.{sum-added_at, total-first}
 
 module _ (factor most : ℕ) (indices numerators : List ℕ) (equal : length numerators ≡ length indices) where
   -- the shares from a place on

@@ -1,4 +1,4 @@
-pub mod ScratchLemmas
+pub mod SumLemmas
 pub mod EntryLemmas
 pub mod TouchedLemmas
 pub mod PairLemmas

@@ -12,9 +12,9 @@ use Rattle.ratio128.specs.Numbers.{plus_times, greatest_amount}
 use Rattle.stencil_apply.specs.Table.{Share, total_of, sum_of_shares}
 use Rattle.stencil_apply.specs.Means.{CanSum}
 use Rattle.stencil_apply.proofs.ArrayLemmas.{cons_both}
-use Rattle.place_sums.specs.Scratch.{sum_of, shares_from}
+use Rattle.place_sums.specs.Sums.{sum_of, shares_from}
 use Rattle.place_sums.specs.Touched.{AreTouched, moved, cleared}
-use Rattle.place_sums.proofs.ScratchLemmas.{sum-added_at, shares-total, replicate-sum}
+use Rattle.place_sums.proofs.SumLemmas.{sum-added_at, shares-total, replicate-sum}
 use Rattle.place_sums.proofs.TouchedLemmas.{added-back, cleared-zeros, each-share, moved-any, moved-same, moved-support, one, touched-inside}
 use Rattle.place_sums.proofs.PairLemmas.{zip-halves}
 

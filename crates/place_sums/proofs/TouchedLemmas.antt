@@ -18,10 +18,10 @@ use Rattle.level_topology.proofs.PlaceLemmas.{distinct-permutation}
 use Rattle.stencil_apply.specs.Table.{Share}
 use Rattle.stencil_apply.proofs.ArrayLemmas.{cons_both}
 use Rattle.place_sums.specs.Shares.{support_of, share_sum}
-use Rattle.place_sums.specs.Scratch.{added_at, shares_from, dense_sum, AreSharesOf}
+use Rattle.place_sums.specs.Sums.{added_at, shares_from, dense_sum, AreSharesOf}
 use Rattle.place_sums.specs.Touched.{AreTouched, StartWithTouched, touched_with, moved, cleared}
 use Rattle.place_sums.proofs.EntryLemmas.{number-there}
-use Rattle.place_sums.proofs.ScratchLemmas.{some-added_at, dense_sum-added_at, dense_sum-zeros}
+use Rattle.place_sums.proofs.SumLemmas.{some-added_at, dense_sum-added_at, dense_sum-zeros}
 
 no_more : (b : Bool) → (b || false) ≡ b
 no_more true = refl

@@ -1,3 +1,3 @@
 pub mod Shares
-pub mod Scratch
+pub mod Sums
 pub mod Touched

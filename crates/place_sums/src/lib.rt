@@ -1,10 +1,11 @@
 //! Sums of numbers by place, and the entries that are read from them.
 //!
-//! A [`Scratch`] has a sum for each place. Clearing it visits only the places whose sum is not 0. [`Entries`] are places with a number each.
+//! [`PlaceSums`] has a sum for each place. Clearing it visits only the places whose sum is not 0. [`Entries`] are places with a number
+//! each.
 #![tactic(auto)]
 
 mod entries;
-mod scratch;
+mod sums;
 
 pub use entries::Entries;
-pub use scratch::Scratch;
+pub use sums::PlaceSums;

@@ -12,9 +12,9 @@ use Rattle.mask_rules.specs.declared.mask.At.TheVariants.{Point, FacePoint}
 use Rattle.mask_rules.specs.declared.mask.Term.{Term}
 use Rattle.mask_rules.specs.View.{source_of, terms_of}
 use Rattle.stencil_apply.specs.Table.{Share}
-use Rattle.place_sums.specs.Scratch.{added_at, added_shares, sum_of}
+use Rattle.place_sums.specs.Sums.{added_at, added_shares, sum_of}
 use Rattle.stencil_factory.specs.Flat.{corner_shares, source_shares, flat_shares, CanAddAll, CanWeigh, CanWeighTerm}
-use Rattle.place_sums.proofs.ScratchLemmas.{length-added_shares, sum-added_shares}
+use Rattle.place_sums.proofs.SumLemmas.{length-added_shares, sum-added_shares}
 
 -- a slice is its first element and the others
 pub first-and-others : {X : Type 0} (xs : List X) (d : X) → 1 ≤ length xs → xs ≡ get_or xs 0 d ∷ take (length xs - 1) (drop 1 xs)

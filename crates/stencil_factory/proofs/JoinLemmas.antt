@@ -14,10 +14,10 @@ use Rattle.sharpness_laws.proofs.JoinedWeightLemmas.{weight_in-cons}
 use Rattle.sharpness_laws.proofs.SameWeightLemmas.{same-total}
 use Rattle.stencil_apply.specs.Table.{Share, total_of}
 use Rattle.stencil_factory.specs.Rows.{support_of}
-use Rattle.place_sums.specs.Scratch.{added_at, added_shares, sum_of, shares_from}
+use Rattle.place_sums.specs.Sums.{added_at, added_shares, sum_of, shares_from}
 use Rattle.stencil_factory.specs.MaskRows.{IsPointAmong, AreWeightsOf}
 use Rattle.stencil_factory.specs.Joined.{terms_of_shares, mask_of_shares, AreJoined}
-use Rattle.place_sums.proofs.ScratchLemmas.{length-added_at, length-added_shares, sum-added_at, place-added_at, shares-inside}
+use Rattle.place_sums.proofs.SumLemmas.{length-added_at, length-added_shares, sum-added_at, place-added_at, shares-inside}
 use Rattle.stencil_factory.proofs.RowLemmas.{zero-at}
 use Rattle.stencil_factory.proofs.AddedLemmas.{first-and-others}
 

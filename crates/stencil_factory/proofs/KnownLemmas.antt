@@ -33,7 +33,7 @@ use Rattle.child_masks.proofs.MeanLemmas.{mean-positive}
 use Rattle.child_masks.proofs.OriginLemmas.{some-corners}
 use Rattle.stencil_apply.specs.Table.{Share}
 use Rattle.stencil_factory.specs.Rows.{share_sum}
-use Rattle.place_sums.specs.Scratch.{added_shares}
+use Rattle.place_sums.specs.Sums.{added_shares}
 use Rattle.stencil_factory.specs.Weights.{names_point, AreWeights}
 use Rattle.stencil_factory.specs.Flat.{corner_shares, flat_shares, CanAddAll, CanWeighTerm, IsWeighed}
 use Rattle.stencil_factory.proofs.WeightLemmas.{IsKnown, common, mask-weigh, mask-can, mask-weighed}

@@ -15,7 +15,7 @@ use Rattle.child_masks.proofs.WithinLemmas.{within-kept}
 use Rattle.stencil_apply.specs.Means.{CanSum, word_bound}
 use Rattle.stencil_apply.specs.Table.{Share, Row, Table, IsRow, IsTable, total_of, sum_of_shares}
 use Rattle.stencil_factory.specs.Rows.{support_of, dens_of}
-use Rattle.place_sums.specs.Scratch.{shares_from}
+use Rattle.place_sums.specs.Sums.{shares_from}
 use Rattle.stencil_factory.specs.Composing.{added_rows, CanAddRows, IsComposedRow, AreComposedRows}
 use Rattle.stencil_factory.specs.Joined.{terms_of_shares, amounts_of, weighing}
 use Rattle.stencil_factory.specs.MaskRows.{AreWeightsOf, no_mask, mask_at, mask_entries, IsRowFault}

@@ -11,7 +11,7 @@ use Rattle.child_masks.specs.Found.{ArePointDenominators}
 use Rattle.child_masks.proofs.WithinLemmas.{within-some}
 use Rattle.stencil_apply.specs.Table.{Share, Table, IsTable}
 use Rattle.stencil_factory.specs.Rows.{support_of, dens_of}
-use Rattle.place_sums.specs.Scratch.{shares_from}
+use Rattle.place_sums.specs.Sums.{shares_from}
 use Rattle.stencil_factory.specs.Weights.{AreWeights}
 use Rattle.stencil_factory.specs.Composing.{added_rows, CanAddRows, IsComposedRow}
 use Rattle.stencil_factory.specs.MaskRows.{AreWeightsOf}

@@ -14,7 +14,7 @@ use Rattle.child_masks.specs.Found.{ArePointDenominators}
 use Rattle.child_masks.proofs.MeanLemmas.{mean-positive}
 use Rattle.stencil_apply.specs.Table.{Share}
 use Rattle.stencil_factory.specs.Rows.{support_of}
-use Rattle.place_sums.specs.Scratch.{added_shares}
+use Rattle.place_sums.specs.Sums.{added_shares}
 use Rattle.stencil_factory.specs.Weights.{names_point, is_named}
 use Rattle.stencil_factory.specs.Flat.{flat_shares, CanAddAll, IsWeighed}
 use Rattle.stencil_factory.specs.PlaceSet.{Places, with_places}

@@ -15,7 +15,7 @@ use Rattle.child_masks.specs.Found.{ArePointDenominators}
 use Rattle.child_masks.proofs.DenLemmas.{dens-positive}
 use Rattle.stencil_apply.specs.Table.{Share, total_of}
 use Rattle.stencil_factory.specs.Rows.{support_of}
-use Rattle.place_sums.specs.Scratch.{added_shares, shares_from, sum_of, AreSharesOf}
+use Rattle.place_sums.specs.Sums.{added_shares, shares_from, sum_of, AreSharesOf}
 use Rattle.stencil_factory.specs.Flat.{CanAddAll, IsWeighed}
 use Rattle.stencil_factory.specs.PlaceSet.{Places, with_places}
 use Rattle.stencil_factory.specs.Named.{AreNamed}
@@ -23,7 +23,7 @@ use Rattle.stencil_factory.specs.MaskRows.{AreWeightsOf}
 use Rattle.stencil_factory.specs.Joined.{terms_of_shares, amounts_of, weighing, AreJoined}
 use Rattle.stencil_factory.specs.Weights.{is_named, AreWeights}
 use Rattle.stencil_factory.proofs.AddedLemmas.{first-and-others, can-first, can-next, same-next}
-use Rattle.place_sums.proofs.ScratchLemmas.{sum-added_shares, some-added_shares}
+use Rattle.place_sums.proofs.SumLemmas.{sum-added_shares, some-added_shares}
 use Rattle.stencil_factory.proofs.RowLemmas.{zero-at}
 use Rattle.stencil_factory.proofs.WeightLemmas.{sums-themselves}
 use Rattle.stencil_factory.proofs.JoinLemmas.{given-inside, are-joined, place-weight, sum-weight}

@@ -15,10 +15,10 @@ use Rattle.subdiv_model.specs.Channel.{number_bound}
 use Rattle.mask_laws.proofs.SumLemmas.{IsOver}
 use Rattle.stencil_apply.specs.Table.{Share, Row, Table, IsTable, row_at, total_of}
 use Rattle.stencil_factory.specs.Rows.{support_of, supports_of, share_sum, dens_of, row_values, values_over, AreSameValues}
-use Rattle.place_sums.specs.Scratch.{shares_from}
+use Rattle.place_sums.specs.Sums.{shares_from}
 use Rattle.stencil_factory.specs.Weights.{AreWeights}
 use Rattle.stencil_factory.specs.Composing.{added_rows, rows_total, CanAddRows, IsComposedRow}
-use Rattle.place_sums.proofs.ScratchLemmas.{replicate-sum, shares-ascending, shares-each, shares-inside, shares-total, share_sum-shares_from, dense_sum-zeros}
+use Rattle.place_sums.proofs.SumLemmas.{replicate-sum, shares-ascending, shares-each, shares-inside, shares-total, share_sum-shares_from, dense_sum-zeros}
 use Rattle.stencil_factory.proofs.RowSumLemmas.{row_numbers, row-total, sum-added_rows, length-added_rows, some-added_rows, dense-added_rows}
 use Rattle.stencil_factory.proofs.SupportLemmas.{sources-have, shares-kept}
 

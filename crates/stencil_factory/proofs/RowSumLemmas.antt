@@ -11,11 +11,11 @@ use Rattle.std.proofs.lemmas.List.Sums.{sum_by-cons}
 use Rattle.subdiv_model.specs.Polygons.{is_among}
 use Rattle.stencil_apply.specs.Table.{Share, Row, Table, IsRow, IsTable, row_at, total_of}
 use Rattle.stencil_factory.specs.Rows.{support_of, share_sum, dens_of}
-use Rattle.place_sums.specs.Scratch.{added_shares, sum_of, dense_sum}
+use Rattle.place_sums.specs.Sums.{added_shares, sum_of, dense_sum}
 use Rattle.stencil_factory.specs.Composing.{added_rows, rows_total, CanAddRows}
 use Rattle.place_sums.proofs.PairLemmas.{zip-parts}
 use Rattle.place_sums.proofs.EntryLemmas.{number-there}
-use Rattle.place_sums.proofs.ScratchLemmas.{length-added_shares, sum-added_shares, some-added_shares, dense_sum-added_shares}
+use Rattle.place_sums.proofs.SumLemmas.{length-added_shares, sum-added_shares, some-added_shares, dense_sum-added_shares}
 
 abbrev pub row_numbers : Table → List ℤ → List ℤ
 row_numbers table numbers = map (λ row. share_sum numbers row.shares) table.rows

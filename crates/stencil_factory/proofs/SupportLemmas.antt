@@ -17,7 +17,7 @@ use Rattle.child_masks.proofs.DenLemmas.{some-place}
 use Rattle.child_masks.proofs.OriginLemmas.{any-at}
 use Rattle.stencil_apply.specs.Table.{Share, Row, Table, row_at}
 use Rattle.stencil_factory.specs.Rows.{support_of, supports_of}
-use Rattle.place_sums.specs.Scratch.{shares_from}
+use Rattle.place_sums.specs.Sums.{shares_from}
 use Rattle.stencil_factory.specs.Weights.{names_point, is_named}
 
 -- two answers that follow from one another are the same

@@ -14,9 +14,9 @@ use Rattle.subdiv_model.specs.Multiples.{lcm_of_all}
 use Rattle.number_laws.proofs.MultipleLemmas.{lcm-first, lcm-second, least-of-all}
 use Rattle.stencil_apply.specs.Table.{Share}
 use Rattle.stencil_factory.specs.Rows.{support_of}
-use Rattle.place_sums.specs.Scratch.{added_at, added_shares, shares_from}
+use Rattle.place_sums.specs.Sums.{added_at, added_shares, shares_from}
 use Rattle.stencil_factory.specs.Joined.{terms_of_shares, amounts_of, weighing}
-use Rattle.place_sums.proofs.ScratchLemmas.{length-added_at, length-added_shares, place-added_at}
+use Rattle.place_sums.proofs.SumLemmas.{length-added_at, length-added_shares, place-added_at}
 use Rattle.sharpness_laws.proofs.JoinedWeightLemmas.{weight_in-cons}
 use Rattle.stencil_factory.proofs.JoinLemmas.{added-none, none-among}
 

@@ -22,10 +22,10 @@ use Rattle.child_masks.specs.Found.{ArePointDenominators}
 use Rattle.child_masks.proofs.MeanLemmas.{mean-positive, mean-total}
 use Rattle.stencil_apply.specs.Table.{Share, total_of}
 use Rattle.stencil_factory.specs.Rows.{support_of, share_sum, values_over, AreSameValues}
-use Rattle.place_sums.specs.Scratch.{added_shares, AreSharesOf}
+use Rattle.place_sums.specs.Sums.{added_shares, AreSharesOf}
 use Rattle.stencil_factory.specs.Weights.{names_point, AreWeights}
 use Rattle.stencil_factory.specs.Flat.{term_shares, flat_shares, CanAddAll, CanWeighTerm, IsWeighed}
-use Rattle.place_sums.proofs.ScratchLemmas.{length-added_shares, place-le-sum, some-added_shares, replicate-sum, dense_sum-added_shares, dense_sum-zeros}
+use Rattle.place_sums.proofs.SumLemmas.{length-added_shares, place-le-sum, some-added_shares, replicate-sum, dense_sum-added_shares, dense_sum-zeros}
 use Rattle.stencil_factory.proofs.FlatLemmas.{weigh_by, source_number, IsPart, source-inside, source-each, source-weight, source-value, source-over, source-named, source-can}
 
 -- what holds of two lists holds of both together

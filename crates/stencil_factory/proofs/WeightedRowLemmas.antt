@@ -4,7 +4,7 @@ use Rattle.std.proofs.lemmas.List.{map-append}
 use Rattle.std.proofs.lemmas.List.Sums.{sum_by-append, sum_by-cons}
 use Rattle.stencil_apply.specs.Table.{Share, Table, IsTable, row_at, total_of}
 use Rattle.stencil_factory.specs.Rows.{dens_of}
-use Rattle.place_sums.specs.Scratch.{added_shares, sum_of}
+use Rattle.place_sums.specs.Sums.{added_shares, sum_of}
 use Rattle.stencil_factory.specs.Composing.{added_rows, rows_total, CanAddRows}
 use Rattle.stencil_factory.specs.Joined.{amounts_of, weighing}
 use Rattle.stencil_factory.proofs.AddedLemmas.{all-first, all-second}

@@ -9,7 +9,7 @@ use Rattle.subdiv_model.specs.Support.{mask_support, source_support}
 use Rattle.mask_laws.proofs.SumLemmas.{IsOver}
 use Rattle.stencil_apply.specs.Table.{Share, Row, Table, IsRow, row_at, total_of}
 use Rattle.stencil_factory.specs.Rows.{support_of, supports_of, dens_of, share_sum, row_values, AreSameValues}
-use Rattle.place_sums.specs.Scratch.{added_shares, sum_of}
+use Rattle.place_sums.specs.Sums.{added_shares, sum_of}
 
 -- The sums after adding the row of each weighted point, times its weight.
 abbrev pub added_rows : Table → List Share → List ℕ → List ℕ

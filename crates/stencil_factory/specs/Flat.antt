@@ -6,7 +6,7 @@ use Rattle.subdiv_model.specs.Level.{Level}
 use Rattle.subdiv_model.specs.Mask.{SourcePoint, OfPoint, OfFace, Term, Mask}
 use Rattle.subdiv_model.specs.Channel.{number_bound}
 use Rattle.stencil_apply.specs.Table.{Share, total_of}
-use Rattle.place_sums.specs.Scratch.{sum_of, AreSharesOf}
+use Rattle.place_sums.specs.Sums.{sum_of, AreSharesOf}
 use Rattle.stencil_factory.specs.Weights.{AreWeights}
 
 -- Each corner with `factor` times `multiple` over the corner's denominator.

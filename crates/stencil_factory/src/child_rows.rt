@@ -8,7 +8,7 @@ use child_masks::Survey;
 use level_topology::{Child, Level};
 use mask_rules::{MadeMask, Scheme};
 use number_width::Natural;
-use place_sums::Scratch;
+use place_sums::PlaceSums;
 use ratio128::Memory;
 use std::alloc::Global;
 
@@ -66,7 +66,7 @@ impl RowMasks for ChildRows<'_> {
         den: u128,
         dens: &[u128],
         buffer: &mut MadeMask,
-        scratch: &mut Scratch<T>,
+        sums: &mut PlaceSums<T>,
     ) -> Result<(), Memory> {
         weigh_mask(
             self.parent,
@@ -77,7 +77,7 @@ impl RowMasks for ChildRows<'_> {
             den,
             buffer,
             dens,
-            scratch,
+            sums,
         );
         Ok(())
     }

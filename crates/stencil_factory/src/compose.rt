@@ -8,7 +8,7 @@ ghost use Rattle.subdiv_model.specs.Channel.{number_bound, entry_bound};
 ghost use Rattle.stencil_apply.specs.Table.{IsRow, entries_of, row_at, total_of};
 ghost use Rattle.stencil_apply.specs.Built.{no_rows, with_row};
 ghost use Rattle.stencil_factory.specs.Rows.{dens_of};
-ghost use Rattle.place_sums.specs.Scratch.{added_shares, shares_from, sum_of};
+ghost use Rattle.place_sums.specs.Sums.{added_shares, shares_from, sum_of};
 ghost use Rattle.stencil_factory.specs.Composing.{added_rows, CanAddRows, IsComposedRow, AreComposedRows};
 ghost use Rattle.stencil_factory.specs.MaskRows.{mask_at, mask_entries, AreFew, AreRowDenominators, AreAdded, IsRowComposition};
 
@@ -16,7 +16,7 @@ use crate::count::count_entries;
 use crate::row_fault::RowFault;
 use crate::rows::RowMasks;
 use number_width::{Natural, NumberSlice, Width, width_of};
-use place_sums::{Entries, Scratch};
+use place_sums::{Entries, PlaceSums};
 use ratio128::Memory;
 use ratio128::limits::ENTRY_BOUND;
 use std::alloc::Global;
@@ -27,9 +27,9 @@ use stencil_apply::{StencilTable, TableBuilder};
 #[derive(Drop)]
 struct Buffers<T: Natural, M> {
     mask: M,
-    points: Scratch<T>,
+    points: PlaceSums<T>,
     weights: Entries<T>,
-    controls: Scratch<T>,
+    controls: PlaceSums<T>,
     entries: Entries<T>,
     counted: bool,
 }
@@ -42,9 +42,9 @@ impl<T: Natural, M: Drop> Buffers<T, M> {
     {
         Ok(Buffers {
             mask,
-            points: Scratch::new(alloc, points)?,
+            points: PlaceSums::new(alloc, points)?,
             weights: Entries::new(alloc),
-            controls: Scratch::new(alloc, controls)?,
+            controls: PlaceSums::new(alloc, controls)?,
             entries: Entries::new(alloc),
             counted: false,
         })
@@ -57,7 +57,7 @@ pub(crate) fn add_row<T: Natural>(
     table: &StencilTable,
     point: u32,
     factor: T,
-    sums: &mut Scratch<T>,
+    sums: &mut PlaceSums<T>,
 )
     requires known { point < length table.now.rows }
     requires places { length sums.old ≡ table.now.controls }
@@ -74,7 +74,7 @@ pub(crate) fn add_row<T: Natural>(
 }
 
 // Adds the row of each point in `weights`, times its weight, to the sums of the control points.
-fn add_rows<T: Natural>(table: &StencilTable, weights: &Entries<T>, sums: &mut Scratch<T>)
+fn add_rows<T: Natural>(table: &StencilTable, weights: &Entries<T>, sums: &mut PlaceSums<T>)
     requires { CanAddRows T.most table.now weights.now sums.old }
     ensures added { sums.new ≡ added_rows table.now weights.now sums.old }
     ensures places { length sums.new ≡ table.now.controls }
@@ -91,7 +91,7 @@ fn add_rows<T: Natural>(table: &StencilTable, weights: &Entries<T>, sums: &mut S
 fn sum_rows<T: Natural>(
     table: &StencilTable,
     weights: &Entries<T>,
-    sums: &mut Scratch<T>,
+    sums: &mut PlaceSums<T>,
     entries: &mut Entries<T>,
 ) -> Result<(), Memory>
     requires clear { sums.old ≡ replicate table.now.controls 0 }

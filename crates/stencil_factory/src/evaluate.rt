@@ -8,7 +8,7 @@ ghost use Rattle.subdiv_model.specs.Refined.{mask_denominator, source_denominato
 ghost use Rattle.stencil_apply.specs.Means.{word_bound};
 ghost use Rattle.stencil_factory.specs.Rows.{dens_of};
 ghost use Rattle.stencil_factory.specs.Powers.{IsWordPower};
-ghost use Rattle.place_sums.specs.Scratch.{shares_from};
+ghost use Rattle.place_sums.specs.Sums.{shares_from};
 ghost use Rattle.stencil_factory.specs.Composing.{IsComposedRow};
 ghost use Rattle.stencil_factory.specs.MaskRows.{mask_at, mask_entries, IsRowFault};
 ghost use Rattle.stencil_factory.specs.MaskValues.{CanEvaluateMasks, AreMaskValues};
@@ -18,7 +18,7 @@ use crate::point_masks::{PointMasks, PointWeights};
 use crate::row_fault::RowFault;
 use crate::weighted_rows::add_weighted_rows;
 use crate::weights::{are_word_powers, multiple_of_row};
-use place_sums::Scratch;
+use place_sums::PlaceSums;
 use ratio128::limits::ENTRY_BOUND;
 use ratio128::{Memory, Primvar, Steps, Valued};
 use std::alloc::Global;
@@ -29,7 +29,7 @@ use stencil_apply::StencilTable;
 #[derive(Drop)]
 struct SumBuffers {
     weights: PointWeights,
-    sums: Scratch<u64>,
+    sums: PlaceSums<u64>,
 }
 
 impl SumBuffers {
@@ -38,7 +38,7 @@ impl SumBuffers {
         ensures { IfOk result (λ buffers. buffers.sums ≡ replicate controls 0) }
     {
         Ok(SumBuffers {
-            sums: Scratch::new(alloc, controls)?,
+            sums: PlaceSums::new(alloc, controls)?,
             weights: PointWeights::new(alloc),
         })
     }

@@ -11,7 +11,7 @@ use crate::point_masks::{PointMasks, PointWeights};
 use crate::weighted_rows::add_weighted_rows;
 use crate::weights::multiple_of_weights;
 use number_width::Width;
-use place_sums::{Entries, Scratch};
+use place_sums::{Entries, PlaceSums};
 use ratio128::limits::ENTRY_BOUND;
 use ratio128::{Memory, times_within};
 use std::alloc::Global;
@@ -24,7 +24,7 @@ const WORD_BOUND: u128 = u64::MAX as u128;
 #[derive(Drop)]
 struct NarrowBuffers {
     weights: PointWeights,
-    controls: Scratch<u64>,
+    controls: PlaceSums<u64>,
     entries: Entries<u64>,
 }
 
@@ -34,7 +34,7 @@ impl NarrowBuffers {
         ensures { IfOk result (λ buffers. buffers.controls ≡ replicate controls 0) }
     {
         Ok(NarrowBuffers {
-            controls: Scratch::new(alloc, controls)?,
+            controls: PlaceSums::new(alloc, controls)?,
             weights: PointWeights::new(alloc),
             entries: Entries::new(alloc),
         })

@@ -5,7 +5,7 @@ use crate::point_masks::{PointMasks, PointWeights};
 use crate::rows::RowMasks;
 use crate::weights::{add_weights, name_weights};
 use number_width::Natural;
-use place_sums::Scratch;
+use place_sums::PlaceSums;
 use ratio128::{Memory, quotient};
 use std::alloc::Global;
 
@@ -53,11 +53,11 @@ impl<M: PointMasks> RowMasks for PointRows<'_, M> {
         den: u128,
         dens: &[u128],
         buffer: &mut PointWeights,
-        scratch: &mut Scratch<T>,
+        sums: &mut PlaceSums<T>,
     ) -> Result<(), Memory> {
         self.masks.put(row, buffer)?;
         let multiple = quotient(den, buffer.denominator());
-        add_weights(scratch, buffer.weights(), multiple, dens);
+        add_weights(sums, buffer.weights(), multiple, dens);
         Ok(())
     }
 }

@@ -10,7 +10,7 @@ ghost use Rattle.stencil_factory.specs.MaskRows.{mask_at};
 
 use crate::place_set::PlaceSet;
 use number_width::Natural;
-use place_sums::Scratch;
+use place_sums::PlaceSums;
 use ratio128::Memory;
 use std::alloc::Global;
 
@@ -64,7 +64,7 @@ pub(crate) trait RowMasks {
         ensures named { OnOk result (AreNamed (level self.now) (mask_at (masks self.now) row) (members.old.mark + 1) members.new) }
         ensures clear { OnOk result (IsClear self.now buffer.new) };
 
-    /// Adds the weights of mask `row` to `scratch`, which has a 0 for each point of the level. `den` is the mask's common
+    /// Adds the weights of mask `row` to `sums`, which has a 0 for each point of the level. `den` is the mask's common
     /// denominator, and `dens` are the denominators of the points. Each weight is the factor for the row of its point.
     fn weigh<T: Natural>(
         &self,
@@ -72,7 +72,7 @@ pub(crate) trait RowMasks {
         den: u128,
         dens: &[u128],
         buffer: &mut Self::Buffer,
-        scratch: &mut Scratch<T>,
+        sums: &mut PlaceSums<T>,
     ) -> Result<(), Memory>
         requires ready { IsReady self.now }
         requires found { IsFound self.now dens.now }
@@ -82,7 +82,7 @@ pub(crate) trait RowMasks {
         requires den { den ≡ mask_denominator (source_denominator (level self.now) dens.now) (mask_at (masks self.now) row) }
         requires short { den ≤ number_bound }
         requires fits { den ≤ T.most }
-        requires zeros { scratch.old ≡ replicate (level self.now).point_count 0 }
-        ensures weighed { OnOk result (IsWeighed (level self.now) dens.now (mask_at (masks self.now) row) scratch.new) }
+        requires zeros { sums.old ≡ replicate (level self.now).point_count 0 }
+        ensures weighed { OnOk result (IsWeighed (level self.now) dens.now (mask_at (masks self.now) row) sums.new) }
         ensures clear { OnOk result (IsClear self.now buffer.new) };
 }

@@ -16,32 +16,26 @@ use child_masks::{PointMask, Survey};
 use level_topology::{Child, Level};
 use mask_rules::{MadeMask, Scheme, face_mask};
 use number_width::Natural;
-use place_sums::Scratch;
+use place_sums::PlaceSums;
 use ratio128::quotient;
 
 // Adds the weights of the face point of face `f`: one weight for each corner.
-fn weigh_face<T: Natural>(
-    parent: &Level,
-    f: u32,
-    den: u128,
-    dens: &[u128],
-    scratch: &mut Scratch<T>,
-)
+fn weigh_face<T: Natural>(parent: &Level, f: u32, den: u128, dens: &[u128], sums: &mut PlaceSums<T>)
     requires known { f < length parent.now.level.polygons }
     requires dens { ArePointDenominators parent.now.level dens.now }
     requires den { den ≡ mask_denominator (source_denominator parent.now.level dens.now) (face_mask parent.now.level f) }
     requires short { den ≤ number_bound }
     requires fits { den ≤ T.most }
-    requires clear { scratch.old ≡ replicate parent.now.level.point_count 0 }
-    ensures { IsWeighed parent.now.level dens.now (face_mask parent.now.level f) scratch.new }
+    requires clear { sums.old ≡ replicate parent.now.level.point_count 0 }
+    ensures { IsWeighed parent.now.level dens.now (face_mask parent.now.level f) sums.new }
 {
     parent.facts();
     let mask = face_mask(parent, f);
     let multiple = quotient(den, mask.size() as u128);
-    add_corners(scratch, parent.face_vertices(f), 1, multiple, dens);
+    add_corners(sums, parent.face_vertices(f), 1, multiple, dens);
 }
 
-/// Adds the weights of child point `p` to `scratch`, which has a 0 for each point of the level. `den` is the common denominator of
+/// Adds the weights of child point `p` to `sums`, which has a 0 for each point of the level. `den` is the common denominator of
 /// the child point, and `dens` are the denominators of the level's points. Each weight is the factor for the row of its point.
 pub(crate) fn weigh_mask<T: Natural>(
     parent: &Level,
@@ -52,7 +46,7 @@ pub(crate) fn weigh_mask<T: Natural>(
     den: u128,
     made: &mut MadeMask,
     dens: &[u128],
-    scratch: &mut Scratch<T>,
+    sums: &mut PlaceSums<T>,
 )
     requires child { CanRefine parent.now child.now (scheme_of scheme) }
     requires known { p < length child.now.origins }
@@ -61,17 +55,17 @@ pub(crate) fn weigh_mask<T: Natural>(
     requires den { den ≡ mask_denominator (source_denominator parent.now.level dens.now) (mask_from parent.now.level (scheme_of scheme) (get_or child.now.origins p (FromVertex 0))) }
     requires short { den ≤ number_bound }
     requires fits { den ≤ T.most }
-    requires clear { scratch.old ≡ replicate parent.now.level.point_count 0 }
-    ensures { IsWeighed parent.now.level dens.now (mask_from parent.now.level (scheme_of scheme) (get_or child.now.origins p (FromVertex 0))) scratch.new }
+    requires clear { sums.old ≡ replicate parent.now.level.point_count 0 }
+    ensures { IsWeighed parent.now.level dens.now (mask_from parent.now.level (scheme_of scheme) (get_or child.now.origins p (FromVertex 0))) sums.new }
 {
     parent.facts();
     child.facts();
     match survey.mask(parent, child, p, scheme, made) {
-        PointMask::Corners(f) => weigh_face(parent, f, den, dens, scratch),
+        PointMask::Corners(f) => weigh_face(parent, f, den, dens, sums),
         PointMask::Terms(mask) => {
             let multiple = quotient(den, mask.denominator(made));
             add_terms(
-                scratch,
+                sums,
                 parent,
                 mask.terms(made),
                 multiple,

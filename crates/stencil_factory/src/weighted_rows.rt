@@ -11,7 +11,7 @@ ghost use Rattle.stencil_factory.specs.Joined.{amounts_of, weighing};
 use crate::compose::add_row;
 use crate::flat::weight_over_power;
 use number_width::Natural;
-use place_sums::Scratch;
+use place_sums::PlaceSums;
 use stencil_apply::StencilTable;
 
 // Adds the row of a point times `weight * (multiple / den)`, where `den` is the point's denominator. If `powers` is true, each denominator
@@ -21,7 +21,7 @@ fn add_weighted_row<T: Natural>(
     weight: &(u32, u128),
     multiple: u128,
     powers: bool,
-    sums: &mut Scratch<T>,
+    sums: &mut PlaceSums<T>,
 )
     requires known { weight.now.0 < length table.now.rows }
     requires powers { powers ≡ true → All IsWordPower (dens_of table.now) }
@@ -45,7 +45,7 @@ pub(crate) fn add_weighted_rows<T: Natural>(
     weights: &[(u32, u128)],
     multiple: u128,
     powers: bool,
-    sums: &mut Scratch<T>,
+    sums: &mut PlaceSums<T>,
 )
     requires known { All (λ share. share.0 < length table.now.rows) weights.now }
     requires powers { powers ≡ true → All IsWordPower (dens_of table.now) }

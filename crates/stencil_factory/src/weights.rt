@@ -8,7 +8,7 @@ ghost use Rattle.subdiv_model.specs.Multiples.{lcm_of, lcm_of_all};
 ghost use Rattle.subdiv_model.specs.Channel.{number_bound};
 ghost use Rattle.child_masks.specs.Survey.{within_bound};
 ghost use Rattle.stencil_factory.specs.Rows.{support_of};
-ghost use Rattle.place_sums.specs.Scratch.{added_shares};
+ghost use Rattle.place_sums.specs.Sums.{added_shares};
 ghost use Rattle.stencil_factory.specs.Flat.{CanAddAll};
 ghost use Rattle.stencil_factory.specs.PlaceSet.{with_places};
 ghost use Rattle.stencil_factory.specs.Joined.{amounts_of, weighing};
@@ -18,7 +18,7 @@ use crate::flat::add_point;
 use crate::place_set::PlaceSet;
 use child_masks::common_multiple;
 use number_width::Natural;
-use place_sums::Scratch;
+use place_sums::PlaceSums;
 use ratio128::Memory;
 
 // Returns the least common multiple of `multiple` and the point's denominator, or 0 if it is above 2^126 - 1.
@@ -195,37 +195,37 @@ pub(crate) fn name_weights(members: &mut PlaceSet, weights: &[(u32, u128)]) -> R
 
 // Adds `weight * (multiple / den)` at a point, where `den` is the point's denominator. It skips a weight of 0.
 fn add_weight<T: Natural>(
-    scratch: &mut Scratch<T>,
+    sums: &mut PlaceSums<T>,
     weight: &(u32, u128),
     multiple: u128,
     dens: &[u128],
 )
     requires known { weight.now.0 < length dens.now }
     requires positive { All (λ den. 0 < den) dens.now }
-    requires can { CanAddAll T.most (amounts_of dens.now multiple (weighing (weight.now ∷ []))) scratch.old }
-    ensures { scratch.new ≡ added_shares 1 (amounts_of dens.now multiple (weighing (weight.now ∷ []))) scratch.old }
+    requires can { CanAddAll T.most (amounts_of dens.now multiple (weighing (weight.now ∷ []))) sums.old }
+    ensures { sums.new ≡ added_shares 1 (amounts_of dens.now multiple (weighing (weight.now ∷ []))) sums.old }
 {
     if weight.1 == 0 {
         return;
     }
-    add_point(scratch, weight.0, weight.1, multiple, dens);
+    add_point(sums, weight.0, weight.1, multiple, dens);
 }
 
 /// Adds `weight * (multiple / den)` at the point of each weight, where `den` is the point's denominator. It skips weights of 0.
 pub(crate) fn add_weights<T: Natural>(
-    scratch: &mut Scratch<T>,
+    sums: &mut PlaceSums<T>,
     weights: &[(u32, u128)],
     multiple: u128,
     dens: &[u128],
 )
     requires known { All (λ share. share.0 < length dens.now) weights.now }
     requires positive { All (λ den. 0 < den) dens.now }
-    requires can { CanAddAll T.most (amounts_of dens.now multiple (weighing weights.now)) scratch.old }
-    ensures { scratch.new ≡ added_shares 1 (amounts_of dens.now multiple (weighing weights.now)) scratch.old }
+    requires can { CanAddAll T.most (amounts_of dens.now multiple (weighing weights.now)) sums.old }
+    ensures { sums.new ≡ added_shares 1 (amounts_of dens.now multiple (weighing weights.now)) sums.old }
 {
     let mut rest = weights;
     while let [weight, others @ ..] = rest {
-        add_weight(scratch, weight, multiple, dens);
+        add_weight(sums, weight, multiple, dens);
         rest = others;
     }
 }

@@ -3,7 +3,7 @@ use Rattle.std.proofs.lemmas.List.{length-map, map-append}
 use Rattle.std.specs.List.{All}
 use Rattle.child_masks.specs.Found.{ArePointDenominators}
 use Rattle.stencil_factory.specs.Powers.{IsWordPower}
-use Rattle.place_sums.specs.Scratch.{shares_from}
+use Rattle.place_sums.specs.Sums.{shares_from}
 use Rattle.stencil_factory.proofs.SurveyLemmas.{point-dens}
 use Rattle.stencil_factory.proofs.MaskValueLemmas.{AreRowValues, none-yet, own-short, can-sum, some-of, all-alike, first-sum, too-many, entries-with, steps-less, next-value, values-below, all-entries, all-values}
 use Rattle.stencil_factory.proofs.evaluate.push_values.Goals as goal

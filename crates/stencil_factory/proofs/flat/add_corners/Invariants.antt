@@ -1,6 +1,6 @@
 use Rattle.std.proofs.Common.{◌≡◌, ◌<◌, length}
 use Rattle.std.specs.List.{All}
-use Rattle.place_sums.specs.Scratch.{added_shares}
+use Rattle.place_sums.specs.Sums.{added_shares}
 use Rattle.stencil_factory.specs.Flat.{corner_shares, CanAddAll}
 use Rattle.stencil_factory.proofs.flat.add_corners.Given as goal
 
@@ -8,8 +8,8 @@ use Rattle.stencil_factory.proofs.flat.add_corners.Given as goal
 abbrev pub invariant-loop-rest : goal.invariant-loop-rest
 invariant-loop-rest g l = record {
   within : All (λ v. v < length l.dens) l.rest;
-  can : CanAddAll g.T.Natural.most (corner_shares l.dens l.factor l.multiple l.rest) l.scratch;
-  same : added_shares 1 (corner_shares l.dens l.factor l.multiple l.rest) l.scratch ≡ added_shares 1 (corner_shares l.dens l.factor l.multiple l.corners) l.fn.scratch;
+  can : CanAddAll g.T.Natural.most (corner_shares l.dens l.factor l.multiple l.rest) l.sums;
+  same : added_shares 1 (corner_shares l.dens l.factor l.multiple l.rest) l.sums ≡ added_shares 1 (corner_shares l.dens l.factor l.multiple l.corners) l.fn.sums;
 }
 
 abbrev pub decreases-loop-rest : goal.decreases-loop-rest

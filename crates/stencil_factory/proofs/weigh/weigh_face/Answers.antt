@@ -5,7 +5,7 @@ use Rattle.subdiv_model.specs.Mask.{weigh_points}
 use Rattle.sharpness_laws.proofs.MaskValueLemmas.{joined-corners}
 use Rattle.mask_rules.specs.Masks.{corners_over}
 use Rattle.child_masks.proofs.FaceLemmas.{face-corners}
-use Rattle.place_sums.specs.Scratch.{added_shares}
+use Rattle.place_sums.specs.Sums.{added_shares}
 use Rattle.stencil_factory.specs.Flat.{CanAddAll}
 use Rattle.stencil_factory.proofs.KnownLemmas.{known-corners, flat-corners, given-can, given-weighed}
 use Rattle.stencil_factory.proofs.weigh.weigh_face.Goals as goal
@@ -18,14 +18,14 @@ add_corners-requires-clause-positive g c = c.requires.dens.positive
 
 pub add_corners-requires-clause-can : goal.add_corners-requires-clause-can
 add_corners-requires-clause-can g c =
-    subst (λ l. CanAddAll g.T.Natural.most l c.args.scratch.now) (flat-corners c.args.parent.now.level c.args.dens.now [] c.quotient-multiple.result c.face_vertices.result.now)
+    subst (λ l. CanAddAll g.T.Natural.most l c.args.sums.now) (flat-corners c.args.parent.now.level c.args.dens.now [] c.quotient-multiple.result c.face_vertices.result.now)
     (given-can c.args.parent.now.level c.args.dens.now [] c.requires.dens (corners_over (polygon_at c.args.parent.now.level.polygons c.args.f) c.face_mask-mask.result.size) _ c.face_mask-mask.ensures.mask
     (joined-corners (polygon_at c.args.parent.now.level.polygons c.args.f))
     (known-corners c.args.parent.now.level c.args.dens.now [] c.requires.dens (polygon_at c.args.parent.now.level.polygons c.args.f)
     (recursion_from_All (λ v. v < length c.args.dens.now) (polygon_at c.args.parent.now.level.polygons c.args.f)
     (face-corners c.args.parent.now c.facts.ensures c.args.f c.requires.known c.args.dens.now c.requires.dens)))
     c.args.den c.requires.den c.requires.short (weigh_points 1 c.face_vertices.result.now) (ap (weigh_points 1) c.face_vertices.ensures)
-    c.size.result c.quotient-multiple.result c.size.ensures c.quotient-multiple.ensures c.args.scratch.now c.requires.clear g.T.Natural.most c.requires.fits)
+    c.size.result c.quotient-multiple.result c.size.ensures c.quotient-multiple.ensures c.args.sums.now c.requires.clear g.T.Natural.most c.requires.fits)
 
 pub returns : goal.returns
 returns g c =
@@ -35,5 +35,5 @@ returns g c =
     (recursion_from_All (λ v. v < length c.args.dens.now) (polygon_at c.args.parent.now.level.polygons c.args.f)
     (face-corners c.args.parent.now c.facts.ensures c.args.f c.requires.known c.args.dens.now c.requires.dens)))
     c.args.den c.requires.den c.requires.short (weigh_points 1 c.face_vertices.result.now) (ap (weigh_points 1) c.face_vertices.ensures)
-    c.size.result c.quotient-multiple.result c.size.ensures c.quotient-multiple.ensures c.args.scratch.now c.requires.clear c.add_corners.new.scratch
-    (c.add_corners.ensures ∙ ap (λ l. added_shares 1 l c.args.scratch.now) (sym (flat-corners c.args.parent.now.level c.args.dens.now [] c.quotient-multiple.result c.face_vertices.result.now)))
+    c.size.result c.quotient-multiple.result c.size.ensures c.quotient-multiple.ensures c.args.sums.now c.requires.clear c.add_corners.new.sums
+    (c.add_corners.ensures ∙ ap (λ l. added_shares 1 l c.args.sums.now) (sym (flat-corners c.args.parent.now.level c.args.dens.now [] c.quotient-multiple.result c.face_vertices.result.now)))

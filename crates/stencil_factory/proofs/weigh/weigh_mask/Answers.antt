@@ -27,7 +27,7 @@ add_terms-requires-clause-weigh g c =
     part-weigh parent c.facts.ensures scheme origin within dens c.deref.result.now c.requires.dens faces
     (seen_terms c.mask.new.made c.in-Terms.mask) c.in-Terms.ensures.1 (joined-from parent.level scheme origin) c.args.den c.requires.den c.requires.short
     (terms_of c.terms.result.now) c.terms.ensures c.denominator.result c.quotient-multiple.result c.denominator.ensures c.quotient-multiple.ensures
-    c.args.scratch.now c.requires.clear
+    c.args.sums.now c.requires.clear
 
 pub add_terms-requires-clause-can : goal.add_terms-requires-clause-can
 add_terms-requires-clause-can g c =
@@ -41,11 +41,11 @@ add_terms-requires-clause-can g c =
     part-can parent c.facts.ensures scheme origin within dens c.deref.result.now c.requires.dens faces
     (seen_terms c.mask.new.made c.in-Terms.mask) c.in-Terms.ensures.1 (joined-from parent.level scheme origin) c.args.den c.requires.den c.requires.short
     (terms_of c.terms.result.now) c.terms.ensures c.denominator.result c.quotient-multiple.result c.denominator.ensures c.quotient-multiple.ensures
-    c.args.scratch.now c.requires.clear g.T.Natural.most c.requires.fits
+    c.args.sums.now c.requires.clear g.T.Natural.most c.requires.fits
 
 pub returns-in-Corners : goal.returns-in-Corners
 returns-in-Corners g c =
-    subst (λ o. IsWeighed c.args.parent.now.level c.args.dens.now (mask_from c.args.parent.now.level (scheme_of c.args.scheme) o) c.weigh_face.new.scratch) (sym c.in-Corners.ensures.0) c.weigh_face.ensures
+    subst (λ o. IsWeighed c.args.parent.now.level c.args.dens.now (mask_from c.args.parent.now.level (scheme_of c.args.scheme) o) c.weigh_face.new.sums) (sym c.in-Corners.ensures.0) c.weigh_face.ensures
 
 pub returns-in-Terms : goal.returns-in-Terms
 returns-in-Terms g c =
@@ -59,4 +59,4 @@ returns-in-Terms g c =
     part-weighed parent c.facts.ensures scheme origin within dens c.deref.result.now c.requires.dens faces
     (seen_terms c.mask.new.made c.in-Terms.mask) c.in-Terms.ensures.1 (joined-from parent.level scheme origin) c.args.den c.requires.den c.requires.short
     (terms_of c.terms.result.now) c.terms.ensures c.denominator.result c.quotient-multiple.result c.denominator.ensures c.quotient-multiple.ensures
-    c.args.scratch.now c.requires.clear c.add_terms.new.scratch c.add_terms.ensures
+    c.args.sums.now c.requires.clear c.add_terms.new.sums c.add_terms.ensures

@@ -1,10 +1,10 @@
 use Rattle.std.proofs.Common.{◌≡◌, ◌*◌, ◌∙◌, arith, length, map, get_or, ap, sym}
 use Rattle.std.specs.List.{zip}
 use Rattle.std.proofs.lemmas.List.{length-map, with_items_is}
-use Rattle.place_sums.specs.Scratch.{added_at, added_shares, sum_of}
-use Rattle.place_sums.proofs.ScratchLemmas.{length-added_at}
+use Rattle.place_sums.specs.Sums.{added_at, added_shares, sum_of}
+use Rattle.place_sums.proofs.SumLemmas.{length-added_at}
 use Rattle.place_sums.proofs.EntryLemmas.{number-there, left-sums, left-fits, next-fits, numerator-fits, left-none}
-use Rattle.place_sums.proofs.scratch.Scratch.add_shares.Goals as goal
+use Rattle.place_sums.proofs.sums.PlaceSums.add_shares.Goals as goal
 
 pub loop-i-init : goal.loop-i-init
 loop-i-init g c =

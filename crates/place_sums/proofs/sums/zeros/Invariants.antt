@@ -1,6 +1,6 @@
 use Rattle.std.proofs.Common.{◌≡◌, ◌≤◌, length, map, replicate}
 use Rattle.std.specs.Vec.{vec_capacity}
-use Rattle.place_sums.proofs.scratch.zeros.Given as goal
+use Rattle.place_sums.proofs.sums.zeros.Given as goal
 
 -- The list has one 0 for each round.
 abbrev pub invariant-loop : goal.invariant-loop

@@ -2,7 +2,7 @@ use Rattle.std.proofs.Common.{ℕ, List, arith, length, take, ap, sym, ◌∙◌
 use Rattle.std.specs.List.Sorted.{IsNonDecreasing}
 use Rattle.std.proofs.lemmas.List.{with_items_is}
 use Rattle.place_sums.proofs.TouchedLemmas.{touched-few, sorted-touched, taken-count, taken-inside, kept-touched, taken-touched, taken-zeros, taken-sorted}
-use Rattle.place_sums.proofs.scratch.Scratch.take.Goals as goal
+use Rattle.place_sums.proofs.sums.PlaceSums.take.Goals as goal
 
 pub sort_first-requires : goal.sort_first-requires
 sort_first-requires g c =

@@ -1,8 +1,8 @@
 use Rattle.std.proofs.Common.{ℕ, List, refl, ap, ◌∙◌, length}
-use Rattle.place_sums.specs.Scratch.{shares_from}
+use Rattle.place_sums.specs.Sums.{shares_from}
 use Rattle.place_sums.proofs.TouchedLemmas.{taken-count, taken-listed}
 use Rattle.place_sums.proofs.OrderLemmas.{moved-count}
-use Rattle.place_sums.proofs.scratch.Scratch.count.Goals as goal
+use Rattle.place_sums.proofs.sums.PlaceSums.count.Goals as goal
 
 pub returns : goal.returns
 returns g c =

@@ -1,5 +1,5 @@
 use Rattle.place_sums.proofs.TouchedLemmas.{taken-count, taken-inside, kept-touched, taken-touched, taken-zeros, taken-any}
-use Rattle.place_sums.proofs.scratch.Scratch.take_unsorted.Goals as goal
+use Rattle.place_sums.proofs.sums.PlaceSums.take_unsorted.Goals as goal
 
 pub slice_bounds-replace-end : goal.slice_bounds-replace-end
 slice_bounds-replace-end g c =

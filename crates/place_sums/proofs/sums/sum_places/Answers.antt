@@ -6,7 +6,7 @@ use Rattle.stencil_apply.specs.Means.{word_bound}
 use Rattle.stencil_apply.proofs.SumLemmas.{in_controls, weight-some, weight-short, can_add-narrow, length-more, within-more, sums-more, sums-all}
 use Rattle.place_sums.specs.Touched.{moved, cleared}
 use Rattle.place_sums.proofs.OrderLemmas.{numbers_read, length-read, shares-read, can-read, number-read, rest-read, cleared-read}
-use Rattle.place_sums.proofs.scratch.sum_places.Goals as goal
+use Rattle.place_sums.proofs.sums.sum_places.Goals as goal
 
 pub loop-at-init : goal.loop-at-init
 loop-at-init g c = record {

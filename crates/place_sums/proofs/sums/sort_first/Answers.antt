@@ -3,7 +3,7 @@ use Rattle.std.specs.List.Sorted.{IsPermutation, IsNonDecreasing}
 use Rattle.std.proofs.lemmas.List.{length-take-le}
 use Rattle.std.proofs.lemmas.List.Sorted.{IsNonDecreasingBy-from_sort}
 use Rattle.place_sums.proofs.TouchedLemmas.{first-part}
-use Rattle.place_sums.proofs.scratch.sort_first.Goals as goal
+use Rattle.place_sums.proofs.sums.sort_first.Goals as goal
 
 pub returns-clause-permutation : goal.returns-clause-permutation
 returns-clause-permutation c =

@@ -1,9 +1,9 @@
 use Rattle.std.proofs.Common.{◌≡◌, ◌+◌, ◌*◌, ◌≤◌, length, map, drop}
 use Rattle.std.specs.List.{zip}
 use Rattle.stencil_apply.specs.Table.{total_of}
-use Rattle.place_sums.specs.Scratch.{added_shares, sum_of}
+use Rattle.place_sums.specs.Sums.{added_shares, sum_of}
 use Rattle.place_sums.specs.Touched.{StartWithTouched}
-use Rattle.place_sums.proofs.scratch.Scratch.add_shares.Given as goal
+use Rattle.place_sums.proofs.sums.PlaceSums.add_shares.Given as goal
 
 -- Adding the remaining shares to the present sums gives the same as adding all shares to the first sums.
 abbrev pub invariant-loop-i : goal.invariant-loop-i

@@ -6,7 +6,7 @@ ghost use Rattle.std.specs.List.Sorted.{IsPermutation, IsNonDecreasing};
 ghost use Rattle.stencil_apply.specs.Table.{total_of, sum_of_shares};
 ghost use Rattle.stencil_apply.specs.Means.{CanSum, word_bound};
 ghost use Rattle.ratio128.specs.Numbers.{zeros};
-ghost use Rattle.place_sums.specs.Scratch.{added_at, added_shares, sum_of, shares_from, AreSharesOf};
+ghost use Rattle.place_sums.specs.Sums.{added_at, added_shares, sum_of, shares_from, AreSharesOf};
 ghost use Rattle.place_sums.specs.Touched.{StartWithTouched, touched_with, moved, cleared};
 
 use crate::entries::{Entries, take_sum};
@@ -18,7 +18,7 @@ use std::sync::ledger::Ledger;
 
 /// A sum for each place. An addition takes no memory.
 #[derive(Drop)]
-pub struct Scratch<T: Natural> {
+pub struct PlaceSums<T: Natural> {
     sums: Vec<T>,
     // The first `count` numbers are the places whose sum is not 0. There is one number more than there are places. So a place can be
     // written behind the first `count` numbers before its sum is tested.
@@ -26,7 +26,7 @@ pub struct Scratch<T: Natural> {
     count: usize,
 }
 
-impl<T: Natural> Model for Scratch<T> {
+impl<T: Natural> Model for PlaceSums<T> {
     ghost use Rattle.std.specs.Prelude.{ℕ, List, map};
     ghost use Rattle.place_sums.specs.Touched.{StartWithTouched};
 
@@ -124,12 +124,12 @@ fn sum_places<T: Natural, P: Primvar<L>, L: Ledger>(
     sum
 }
 
-impl<T: Natural> Scratch<T> {
+impl<T: Natural> PlaceSums<T> {
     /// Returns the sums of `places` places, all 0.
-    pub fn new(alloc: Global, places: u32) -> Result<Scratch<T>, Memory>
-        ensures { IfOk result (λ scratch. scratch ≡ replicate places 0) }
+    pub fn new(alloc: Global, places: u32) -> Result<PlaceSums<T>, Memory>
+        ensures { IfOk result (λ sums. sums ≡ replicate places 0) }
     {
-        Ok(Scratch {
+        Ok(PlaceSums {
             sums: zeros(alloc, places)?,
             touched: vec![in alloc; 0; places as usize + 1]?,
             count: 0,

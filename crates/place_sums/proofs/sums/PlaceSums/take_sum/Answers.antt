@@ -2,10 +2,10 @@ use Rattle.std.proofs.Common.{ℕ, List, ◌+◌, ap, length, map, sym, ◌∙�
 use Rattle.ratio128.specs.Numbers.{zeros}
 use Rattle.stencil_apply.specs.Table.{sum_of_shares}
 use Rattle.stencil_apply.specs.Means.{CanSum, word_bound}
-use Rattle.place_sums.specs.Scratch.{shares_from}
+use Rattle.place_sums.specs.Sums.{shares_from}
 use Rattle.place_sums.proofs.TouchedLemmas.{taken-count, taken-inside, taken-listed, taken-touched, taken-zeros}
 use Rattle.place_sums.proofs.OrderLemmas.{moved-sum, moved-count, moved-can}
-use Rattle.place_sums.proofs.scratch.Scratch.take_sum.Goals as goal
+use Rattle.place_sums.proofs.sums.PlaceSums.take_sum.Goals as goal
 
 pub slice_bounds-places-end : goal.slice_bounds-places-end
 slice_bounds-places-end g c = taken-count g.T.Natural.value c.self.inside.touched.items c.deref.result.now c.deref.ensures.value c.self.inside.count c.self.inside.sums.items c.self.invariant

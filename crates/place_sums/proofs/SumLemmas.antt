@@ -12,7 +12,7 @@ use Rattle.number_laws.proofs.WholeNumberLemmas.{pos-sum, pos-distrib, pos-assoc
 use Rattle.subdiv_model.specs.Polygons.{is_among}
 use Rattle.stencil_apply.specs.Table.{Share, total_of}
 use Rattle.place_sums.specs.Shares.{support_of, share_sum}
-use Rattle.place_sums.specs.Scratch.{added_at, added_shares, sum_of, shares_from, dense_sum_from, dense_sum}
+use Rattle.place_sums.specs.Sums.{added_at, added_shares, sum_of, shares_from, dense_sum_from, dense_sum}
 
 -- there are as many sums as before
 pub length-added_at : (place amount : ℕ) (sums : List ℕ) → length (added_at place amount sums) ≡ length sums

@@ -6,7 +6,7 @@ use Rattle.stencil_apply.specs.Table.{total_of, sum_of_shares}
 use Rattle.stencil_apply.specs.Means.{word_bound}
 use Rattle.place_sums.specs.Touched.{moved, cleared}
 use Rattle.place_sums.proofs.OrderLemmas.{numbers_read}
-use Rattle.place_sums.proofs.scratch.sum_places.Given as goal
+use Rattle.place_sums.proofs.sums.sum_places.Given as goal
 
 -- The sum of the places before this one, and the sums that remain.
 abbrev pub invariant-loop-at : goal.invariant-loop-at

@@ -1,7 +1,7 @@
 use Rattle.std.proofs.Common.{◌≡◌, ◌+◌, ℕ, ap, ◌∙◌, length, replicate, rules}
 use Rattle.std.proofs.lemmas.List.{length-replicate}
 use Rattle.place_sums.proofs.TouchedLemmas.{untouched}
-use Rattle.place_sums.proofs.scratch.Scratch.new.Goals as goal
+use Rattle.place_sums.proofs.sums.PlaceSums.new.Goals as goal
 
 pub invariant_of-result : goal.invariant_of-result
 invariant_of-result g c =

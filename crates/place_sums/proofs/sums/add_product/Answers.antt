@@ -1,8 +1,8 @@
 use Rattle.std.proofs.Common.{arith, map, refl}
 use Rattle.std.proofs.lemmas.List.{length-map}
-use Rattle.place_sums.proofs.ScratchLemmas.{place-le-sum}
+use Rattle.place_sums.proofs.SumLemmas.{place-le-sum}
 use Rattle.place_sums.proofs.TouchedLemmas.{sum-there, touched-few, touched-step, sums-step}
-use Rattle.place_sums.proofs.scratch.add_product.Goals as goal
+use Rattle.place_sums.proofs.sums.add_product.Goals as goal
 
 pub plus_product-requires : goal.plus_product-requires
 plus_product-requires g c =
