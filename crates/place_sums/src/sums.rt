@@ -1,6 +1,6 @@
 //! A sum for each place. Clearing the sums visits only the places that changed.
 
-ghost use Rattle.std.specs.Prelude.{◌≡◌, ◌+◌, ◌*◌, ◌<◌, ◌≤◌, length, map, replicate, take, IfOk, OnOk};
+ghost use Rattle.std.specs.Prelude.{◌≡◌, ◌+◌, ◌*◌, ◌<◌, ◌≤◌, length, map, replicate, take, IfOk, OnErr, OnOk};
 ghost use Rattle.std.specs.List.{All, zip};
 ghost use Rattle.std.specs.List.Sorted.{IsPermutation, IsNonDecreasing};
 ghost use Rattle.stencil_apply.specs.Table.{total_of, sum_of_shares};
@@ -126,6 +126,8 @@ fn sum_places<T: Natural, P: Primvar<L>, L: Ledger>(
 
 impl<T: Natural> PlaceSums<T> {
     /// Returns the sums of `places` places, all 0.
+    ///
+    /// The error is `Memory`: memory ran out.
     pub fn new(alloc: Global, places: u32) -> Result<PlaceSums<T>, Memory>
         ensures { IfOk result (λ sums. sums ≡ replicate places 0) }
     {
@@ -177,9 +179,12 @@ impl<T: Natural> PlaceSums<T> {
     }
 
     /// Replaces the entries by the sums that are not 0, in any order. All sums become 0.
+    ///
+    /// The error is `Memory`: memory ran out, and the sums are unchanged.
     pub fn take_unsorted(&mut self, entries: &mut Entries<T>) -> Result<(), Memory>
         ensures zeros { OnOk result (self.new ≡ replicate (length self.old) 0) }
         ensures entries { OnOk result (AreSharesOf self.old entries.new) }
+        ensures unchanged { OnErr result (self.new ≡ self.old) }
     {
         entries.replace(&self.touched[..self.count], &mut self.sums)?;
         self.count = 0;
@@ -187,9 +192,12 @@ impl<T: Natural> PlaceSums<T> {
     }
 
     /// Replaces the entries by the sums that are not 0, ascending by place. All sums become 0.
+    ///
+    /// The error is `Memory`: memory ran out, and the sums are unchanged.
     pub fn take(&mut self, entries: &mut Entries<T>) -> Result<(), Memory>
         ensures zeros { OnOk result (self.new ≡ replicate (length self.old) 0) }
         ensures entries { OnOk result (entries.new ≡ shares_from 0 self.old) }
+        ensures unchanged { OnErr result (self.new ≡ self.old) }
     {
         sort_first(&mut self.touched, self.count);
         entries.replace(&self.touched[..self.count], &mut self.sums)?;
