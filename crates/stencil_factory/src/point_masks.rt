@@ -1,6 +1,6 @@
 //! The trait by which a caller supplies masks over the points of a level.
 
-ghost use Rattle.std.specs.Prelude.{◌≡◌, ◌-◌, ◌^◌, ◌<◌, ◌≤◌, [], ◌++◌, ◌∷◌, List, length, OnOk};
+ghost use Rattle.std.specs.Prelude.{◌≡◌, ◌-◌, ◌^◌, ◌<◌, ◌≤◌, [], ◌++◌, ◌∷◌, List, length, OnErr, OnOk};
 ghost use Rattle.subdiv_model.specs.Mask.{OfPoint, weigh};
 ghost use Rattle.stencil_factory.specs.MaskRows.{mask_at, AreWeightsOf};
 ghost use Rattle.stencil_factory.specs.Joined.{terms_of_shares};
@@ -49,9 +49,10 @@ impl PointWeights {
 
     /// Appends a point with its weight. A point may occur more than once: its weights add up. A weight may be 0.
     ///
-    /// The error is `Memory`: memory ran out.
+    /// The error is `Memory`: memory ran out, and the weights are unchanged.
     pub fn put(&mut self, point: u32, weight: u128) -> Result<(), Memory>
-        ensures { OnOk result (self.new ≡ record { terms = self.old.terms ++ weigh weight (OfPoint point) ∷ []; denominator = self.old.denominator }) }
+        ensures added { OnOk result (self.new ≡ record { terms = self.old.terms ++ weigh weight (OfPoint point) ∷ []; denominator = self.old.denominator }) }
+        ensures unchanged { OnErr result (self.new ≡ self.old) }
     {
         self.weights.push((point, weight))?;
         Ok(())

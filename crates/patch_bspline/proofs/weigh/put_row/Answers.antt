@@ -6,7 +6,7 @@ pub loop-i-preserved : goal.loop-i-preserved
 loop-i-preserved c =
     put-more c.args.along.now c.args.row.now c.args.across c.told-along c.told-row c.loop-i.i (c.from.result * c.from-in-loop-i.result) _ c.args.weights.now c.loop-i.weights
     c.put.new.self c.loop-i-test.true c.loop-i.invariant
-    (ap (λ n. n * c.from-in-loop-i.result) c.from.ensures ∙ ap (λ n. get_or c.args.along.now c.loop-i.i 0 * n) c.from-in-loop-i.ensures) refl c.in_ok-put.ensures
+    (ap (λ n. n * c.from-in-loop-i.result) c.from.ensures ∙ ap (λ n. get_or c.args.along.now c.loop-i.i 0 * n) c.from-in-loop-i.ensures) refl c.in_ok-put.ensures.added
 
 pub returns : goal.returns
 returns c =
