@@ -1,10 +1,11 @@
 -- Powers of two: of two of them one divides the other, so the greater is their least common multiple.
-use Rattle.std.proofs.Common.{◌≡◌, ℕ, zero, suc, ◌+◌, ◌-◌, ◌*◌, ◌^◌, ◌<◌, ◌≤◌, ◌⊎◌, inl, inr, max, List, length, map, get_or, take, arith, refl, ap, sym, ◌∙◌, subst}
-use Rattle.std.specs.Int.{◌∣◌}
+use Rattle.std.proofs.Common.{◌≡◌, ℕ, zero, suc, ◌+◌, ◌-◌, ◌*◌, ◌/◌, ◌^◌, ◌<◌, ◌≤◌, ◌⊎◌, inl, inr, max, List, length, map, get_or, take, arith, refl, ap, sym, ◌∙◌, subst}
+use Rattle.std.specs.Int.{◌∣◌, trailing_zeros, w64}
 use Rattle.std.specs.List.{All, fold}
 use Rattle.std.proofs.lemmas.Nat.{pow_pos, pow-add}
 use Rattle.std.proofs.lemmas.Nat.Gcd.{le_of_dvd}
 use Rattle.std.proofs.Math.Nat.{dvd-mul_left, max-eq_left, max-eq_right}
+use Rattle.ratio128.proofs.OddLemmas.{power-quotient}
 use Rattle.subdiv_model.specs.Multiples.{lcm_of}
 use Rattle.subdiv_model.specs.Channel.{number_bound}
 use Rattle.child_masks.specs.Survey.{within_bound}
@@ -107,3 +108,12 @@ module _ (dens : List ℕ) (positive : All (λ den. 0 < den) dens) (weights : Li
           power = (powers (get_or weights i (0, 0)).0 0 (inside i (0, 0) below)).power;
           is = some h;
         }) (still-some (get_or weights i (0, 0)).1 refl)
+
+-- Where all denominators are powers of two, a shift divides by that of a point.
+pub shift-divides : (list dens : List ℕ) → list ≡ dens → All IsWordPower list → (v weight multiple : ℕ) → v < length dens → 0 < get_or dens v 0
+    → weight * (multiple / 2 ^ trailing_zeros w64 (get_or list v 0)) ≡ weight * (multiple / get_or dens v 0)
+shift-divides list dens view powers v weight multiple inside positive =
+    let same = ap (λ (l : List ℕ). get_or l v 0) view in
+    let is = powers v 0 (omega (arith, inside, ap length view)) in
+    ap (λ q. weight * q) (power-quotient multiple (get_or list v 0) (omega (arith, positive, same)) (omega (arith, is.fits)) is.shifted)
+    ∙ ap (λ den. weight * (multiple / den)) same

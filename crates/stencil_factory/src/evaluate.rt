@@ -1,23 +1,21 @@
 //! Evaluates the rows of masks over controls. It makes no table of these rows.
 
-ghost use Rattle.std.specs.Prelude.{◌≡◌, ℕ, ◌+◌, ◌≤◌, ◌<◌, true, [], length, map, replicate, min, Err, IfOk, OnOk, MatchResult};
-ghost use Rattle.std.specs.List.{All};
+ghost use Rattle.std.specs.Prelude.{◌≡◌, ℕ, ◌+◌, ◌≤◌, ◌<◌, [], length, map, replicate, min, Err, IfOk, OnOk, MatchResult};
 ghost use Rattle.std.specs.Vec.{vec_capacity};
 ghost use Rattle.subdiv_model.specs.Channel.{entry_bound};
 ghost use Rattle.subdiv_model.specs.Refined.{mask_denominator, source_denominator};
 ghost use Rattle.stencil_apply.specs.Means.{word_bound};
 ghost use Rattle.stencil_factory.specs.Rows.{dens_of};
-ghost use Rattle.stencil_factory.specs.Powers.{IsWordPower};
 ghost use Rattle.place_sums.specs.Sums.{shares_from};
 ghost use Rattle.stencil_factory.specs.Composing.{IsComposedRow};
 ghost use Rattle.stencil_factory.specs.MaskRows.{mask_at, mask_entries, IsRowFault};
 ghost use Rattle.stencil_factory.specs.MaskValues.{CanEvaluateMasks, AreMaskValues};
 ghost use Rattle.stencil_factory.specs.declared.row_fault.RowFault.TheVariants.{Denominator};
 
+use crate::denominators::Denominators;
 use crate::point_masks::{PointMasks, PointWeights};
 use crate::row_fault::RowFault;
 use crate::weighted_rows::add_weighted_rows;
-use crate::weights::{are_word_powers, multiple_of_row};
 use place_sums::PlaceSums;
 use ratio128::limits::ENTRY_BOUND;
 use ratio128::{Memory, Primvar, Steps, Valued};
@@ -44,19 +42,19 @@ impl SumBuffers {
     }
 }
 
-// Adds the numerators of row `row` at their control points, where all sums are 0. Returns the row's denominator. If `powers` is true, each
-// denominator of `table` is a power of two of 64 bits.
+// Adds the numerators of row `row` at their control points, where all sums are 0. Returns the row's denominator. `dens` are
+// those of the table's rows.
 fn sum_mask<M: PointMasks>(
     table: &StencilTable,
     masks: &M,
     row: u32,
-    powers: bool,
+    dens: &Denominators,
     buffers: &mut SumBuffers,
 ) -> Result<u128, Memory>
     requires each { length table.now.rows ≡ (M.level masks.now).point_count }
     requires known { row < length (M.masks masks.now) }
     requires short { mask_denominator (source_denominator (M.level masks.now) (dens_of table.now)) (mask_at (M.masks masks.now) row) ≤ word_bound }
-    requires powers { powers ≡ true → All IsWordPower (dens_of table.now) }
+    requires dens { dens.now ≡ dens_of table.now }
     requires clear { buffers.old.sums ≡ replicate table.now.controls 0 }
     ensures places { OnOk result (length buffers.new.sums ≡ table.now.controls) }
     ensures row { IfOk result (λ den. IsComposedRow (M.level masks.now) table.now (mask_at (M.masks masks.now) row) (record { den = den; shares = shares_from 0 buffers.new.sums })) }
@@ -64,8 +62,8 @@ fn sum_mask<M: PointMasks>(
     table.facts();
     masks.put(row, &mut buffers.weights)?;
     let weights = buffers.weights.weights();
-    let multiple = multiple_of_row(weights, table.denominators(), powers);
-    add_weighted_rows(table, weights, multiple, powers, &mut buffers.sums);
+    let multiple = dens.multiple_of(weights);
+    add_weighted_rows(table, weights, multiple, dens, &mut buffers.sums);
     Ok(buffers.weights.denominator() * multiple)
 }
 
@@ -92,10 +90,10 @@ fn push_values<M: PointMasks, P: Primvar<L>, L: Ledger>(
     ensures later { steps.old ≤ steps.new }
 {
     table.facts();
-    let powers = are_word_powers(table.denominators());
+    let dens = Denominators::tested(table.denominators());
     let mut entries: u64 = 0;
     for row in 0..masks.count() {
-        let den = sum_mask(table, masks, row, powers, buffers)?;
+        let den = sum_mask(table, masks, row, &dens, buffers)?;
         let row_entries = buffers.sums.count() as u64;
         if row_entries > ENTRY_BOUND - entries {
             return Err(RowFault::TooManyEntries);

@@ -1,12 +1,11 @@
 //! Adds the terms of a mask as weights of the level's points. A face point becomes equal weights of the corners of its face.
 
-ghost use Rattle.std.specs.Prelude.{◌≡◌, ◌*◌, ◌/◌, ◌<◌, ◌≤◌, true, [], ◌∷◌, length, get_or};
+ghost use Rattle.std.specs.Prelude.{◌≡◌, ◌*◌, ◌/◌, ◌<◌, ◌≤◌, [], ◌∷◌, length, get_or};
 ghost use Rattle.std.specs.List.{All, AllByRecursion};
 ghost use Rattle.subdiv_model.specs.Channel.{number_bound};
 ghost use Rattle.mask_rules.specs.View.{source_of, terms_of};
 ghost use Rattle.child_masks.specs.Found.{ArePointDenominators};
 ghost use Rattle.place_sums.specs.Sums.{added_at, added_shares};
-ghost use Rattle.stencil_factory.specs.Powers.{IsWordPower};
 ghost use Rattle.stencil_factory.specs.Flat.{corner_shares, source_shares, flat_shares, CanAddAll, CanWeigh, CanWeighTerm};
 
 use level_topology::Level;
@@ -25,20 +24,6 @@ pub(crate) fn weight_over(weight: u128, multiple: u128, den: u128) -> u128
         return weight;
     }
     weight * quotient(multiple, den)
-}
-
-/// Returns `weight * (multiple / den)`. If `powers` is true, `den` is a power of two of 64 bits, and a shift divides.
-pub(crate) fn weight_over_power(weight: u128, multiple: u128, den: u128, powers: bool) -> u128
-    requires positive { 0 < den }
-    requires powers { powers ≡ true → IsWordPower den }
-    requires small { weight * (multiple / den) ≤ number_bound }
-    ensures { result ≡ weight * (multiple / den) }
-{
-    if powers {
-        weight * (multiple >> (den as u64).trailing_zeros())
-    } else {
-        weight_over(weight, multiple, den)
-    }
 }
 
 /// Adds `factor * (multiple / den)` at each corner, where `den` is the corner's denominator.

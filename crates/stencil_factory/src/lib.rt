@@ -11,6 +11,7 @@ mod child_rows;
 mod compose;
 mod controls;
 mod count;
+mod denominators;
 mod evaluate;
 mod fault;
 mod flat;

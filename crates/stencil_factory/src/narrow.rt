@@ -7,9 +7,9 @@ ghost use Rattle.stencil_factory.specs.Composing.{IsComposedRow, AreComposedRows
 ghost use Rattle.stencil_factory.specs.MaskRows.{mask_at, AreMaskRows};
 
 use crate::compose::put_entries;
+use crate::denominators::Denominators;
 use crate::point_masks::{PointMasks, PointWeights};
 use crate::weighted_rows::add_weighted_rows;
-use crate::weights::multiple_of_weights;
 use number_width::Width;
 use place_sums::{Entries, PlaceSums};
 use ratio128::limits::ENTRY_BOUND;
@@ -57,12 +57,13 @@ fn compose_row<M: PointMasks>(
     table.facts();
     masks.put(row, &mut buffers.weights)?;
     let weights = buffers.weights.weights();
-    let multiple = multiple_of_weights(weights, table.denominators());
+    let dens = Denominators::untested(table.denominators());
+    let multiple = dens.multiple_of(weights);
     let den = times_within(buffers.weights.denominator(), multiple, WORD_BOUND).unwrap_or(0);
     if den == 0 {
         return Ok(0);
     }
-    add_weighted_rows(table, weights, multiple, false, &mut buffers.controls);
+    add_weighted_rows(table, weights, multiple, &dens, &mut buffers.controls);
     buffers.controls.take(&mut buffers.entries)?;
     Ok(den)
 }

@@ -138,8 +138,8 @@ fn greater_with(greatest: u64, weight: &(u32, u128), dens: &[u128]) -> u64
     greatest.max(dens[weight.0 as usize] as u64)
 }
 
-// Returns the greatest denominator of the points with a weight above 0. All denominators are powers of two of 64 bits.
-fn greatest_of_powers(weights: &[(u32, u128)], dens: &[u128]) -> u64
+/// Returns the greatest denominator of the points with a weight above 0. All denominators are powers of two of 64 bits.
+pub(crate) fn greatest_of_powers(weights: &[(u32, u128)], dens: &[u128]) -> u64
     requires inside { All (λ share. share.0 < length dens.now) weights.now }
     requires positive { All (λ den. 0 < den) dens.now }
     requires short { All (λ den. den ≤ number_bound) dens.now }
@@ -151,22 +151,6 @@ fn greatest_of_powers(weights: &[(u32, u128)], dens: &[u128]) -> u64
         greatest = greater_with(greatest, weight, dens);
     }
     greatest
-}
-
-/// Returns the least common multiple of the denominators of the points with a weight above 0, or 0 if it is above 2^126 - 1. If `powers`
-/// is true, all denominators are powers of two of 64 bits, and none is tested again.
-pub(crate) fn multiple_of_row(weights: &[(u32, u128)], dens: &[u128], powers: bool) -> u128
-    requires inside { All (λ share. share.0 < length dens.now) weights.now }
-    requires positive { All (λ den. 0 < den) dens.now }
-    requires short { All (λ den. den ≤ number_bound) dens.now }
-    requires powers { powers ≡ true → All IsWordPower dens.now }
-    ensures { result ≡ within_bound (lcm_of_all (map (λ v. get_or dens.now v 1) (support_of (weighing weights.now)))) }
-{
-    if powers {
-        u128::from(greatest_of_powers(weights, dens))
-    } else {
-        multiple_of_weights(weights, dens)
-    }
 }
 
 // Adds the point of a weight to the set if the weight is above 0.

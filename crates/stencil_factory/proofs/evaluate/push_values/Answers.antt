@@ -1,8 +1,6 @@
 use Rattle.std.proofs.Common.{◌<◌, ◌+◌, ◌≤◌, ℤ, ℕ, List, [], ◌∷◌, arith, refl, ap, sym, ◌∙◌, subst, length, map, replicate, take}
 use Rattle.std.proofs.lemmas.List.{length-map, map-append}
-use Rattle.std.specs.List.{All}
 use Rattle.child_masks.specs.Found.{ArePointDenominators}
-use Rattle.stencil_factory.specs.Powers.{IsWordPower}
 use Rattle.place_sums.specs.Sums.{shares_from}
 use Rattle.stencil_factory.proofs.SurveyLemmas.{point-dens}
 use Rattle.stencil_factory.proofs.MaskValueLemmas.{AreRowValues, none-yet, own-short, can-sum, some-of, all-alike, first-sum, too-many, entries-with, steps-less, next-value, values-below, all-entries, all-values}
@@ -131,10 +129,10 @@ returns-clause-taken g c =
     let all = all-entries level masks c.args.table.now c.facts.ensures controls c.requires.can c.loop-row.row c.loop-row.entries past c.loop-row.invariant.entries in
     omega (arith, c.loop-row.invariant.taken, all)
 
-pub are_word_powers-powers-requires : goal.are_word_powers-powers-requires
-are_word_powers-powers-requires g c =
+pub tested-dens-requires : goal.tested-dens-requires
+tested-dens-requires g c =
     let level = g.M.PointMasks.level c.args.masks.now in
     (subst (ArePointDenominators level) (sym c.denominators.ensures) (point-dens c.args.table.now level c.facts.ensures c.requires.each)).positive
 
-pub sum_mask-requires-clause-powers : goal.sum_mask-requires-clause-powers
-sum_mask-requires-clause-powers g c = λ yes. subst (λ (dens : List ℕ). All IsWordPower dens) c.denominators.ensures (c.are_word_powers-powers.ensures yes)
+pub sum_mask-requires-clause-dens : goal.sum_mask-requires-clause-dens
+sum_mask-requires-clause-dens g c = c.tested-dens.ensures ∙ c.denominators.ensures
