@@ -32,7 +32,7 @@ macro_rules! entries {
 const NONE: Point3 = point!(0, 0, 0);
 
 // A single point, the mean of two, and denominators at 2^63 and at 2^64.
-const ALONE: Row = (1, entries![0 1]);
+const ONE_POINT: Row = (1, entries![0 1]);
 
 const MEAN: Row = (2, entries![0 1, 1 1]);
 
@@ -102,10 +102,10 @@ const SUMS: &[Sums] = &[
         Width::Wide,
         SMALL_SUMS,
     ),
-    (&[ALONE], GREAT, Width::Narrow, &[GREAT_FIRST]),
-    (&[ALONE], GREATER, Width::Wide, &[GREATER_FIRST]),
+    (&[ONE_POINT], GREAT, Width::Narrow, &[GREAT_FIRST]),
+    (&[ONE_POINT], GREATER, Width::Wide, &[GREATER_FIRST]),
     (
-        &[MEAN, ALONE],
+        &[MEAN, ONE_POINT],
         HALVES,
         Width::Narrow,
         &[point!((1 << 63) - 2, -((1 << 63) - 2), -5), HALVES_FIRST],
