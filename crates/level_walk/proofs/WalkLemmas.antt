@@ -4,7 +4,7 @@ use Rattle.level_topology.specs.Topology.{Topology}
 use Rattle.level_topology.specs.Child.{ChildTopology}
 use Rattle.level_walk.specs.declared.fault.Cause.{Cause}
 use Rattle.level_walk.specs.declared.fault.WalkFault.{WalkFault}
-use Rattle.level_walk.specs.Round.{IsCause}
+use Rattle.level_walk.specs.Round.{IsFailed}
 use Rattle.level_walk.specs.Walk.{Place, IsAfter, IsWalked, IsStopped}
 
 -- one round more
@@ -41,16 +41,16 @@ changed (Err f) new fault P Q e q = let same : new ≡ fault f = cc in (f, (same
 -- the fault is that of the next level
 pub stopped : {W C V : Type 0} (level_of : W → Topology) (Makes : W → ChildTopology → W → ℕ → ℕ → Type 0) (Refuses : W → Cause → ℕ → ℕ → Type 0)
     (Follows : Topology → ChildTopology → C → C → ℕ → ℕ → Type 0) (Fails : Topology → ChildTopology → C → Cause → ℕ → ℕ → Type 0)
-    (Takes : V → W → C → V → Type 0) (start : Place W C V) (depth k : ℕ) (last : Place W C V) (fault : WalkFault) (new : ℕ)
+    (Takes : V → W → C → V → Type 0) (start : Place W C V) (depth k : ℕ) (last : Place W C V) (fault : WalkFault) (visitor : V) (new : ℕ)
     → k < depth → IsWalked level_of Makes Follows Takes start k last
-    → (cause : Cause) × ((fault ≡ record { level = k + 1; cause = cause }) × IsCause level_of Makes Refuses Follows Fails last.reached cause last.steps new)
-    → IsStopped level_of Makes Refuses Follows Fails Takes start depth fault new
-stopped level_of Makes Refuses Follows Fails Takes start depth k last fault new within walked (cause, (same, is)) =
-    subst (λ f. IsStopped level_of Makes Refuses Follows Fails Takes start depth f new) (sym same) (record {
+    → (cause : Cause) × ((fault ≡ record { level = k + 1; cause = cause }) × IsFailed level_of Makes Refuses Follows Fails last.reached cause last.visitor visitor last.steps new)
+    → IsStopped level_of Makes Refuses Follows Fails Takes start depth fault visitor new
+stopped level_of Makes Refuses Follows Fails Takes start depth k last fault visitor new within walked (cause, (same, is)) =
+    subst (λ f. IsStopped level_of Makes Refuses Follows Fails Takes start depth f visitor new) (sym same) (record {
       k = k;
       last = last;
       within = within;
       walked = walked;
       number = refl;
-      cause = is;
+      failed = is;
     })

@@ -1,5 +1,5 @@
 -- One round of a walk, or the cause that it fails.
-use Rattle.std.specs.Prelude.{ℕ, ◌≡◌, ◌⊎◌, Result, MatchResult}
+use Rattle.std.specs.Prelude.{ℕ, ◌≡◌, ◌⊎◌, Result, Err, MatchResult}
 use Rattle.level_topology.specs.Topology.{Topology}
 use Rattle.level_topology.specs.Child.{ChildTopology}
 use Rattle.level_walk.specs.declared.fault.Cause.{Cause}
@@ -40,6 +40,14 @@ IsCause level_of Makes Refuses Follows Fails from cause old new =
     ⊎ (IsLeftBehind level_of Makes Fails from cause old new
     ⊎ IsWithoutMemory level_of Makes Follows from cause old new)
 
+-- The round fails with this cause. The visitor is as before, unless memory ran out for it. The last arguments are the visitor
+-- before and after, and the number of steps before and after.
+pub record IsFailed {W C V : Type 0} (level_of : W → Topology) (Makes : W → ChildTopology → W → ℕ → ℕ → Type 0) (Refuses : W → Cause → ℕ → ℕ → Type 0)
+    (Follows : Topology → ChildTopology → C → C → ℕ → ℕ → Type 0) (Fails : Topology → ChildTopology → C → Cause → ℕ → ℕ → Type 0)
+    (from : Reached W C) (why : Cause) (before after : V) (old new : ℕ) : Type 0 where
+  pub cause : IsCause level_of Makes Refuses Follows Fails from why old new
+  pub visitor : (after ≡ before) ⊎ IsWithoutMemory level_of Makes Follows from why old new
+
 -- the next level and its data, or the cause that it is not reached
 abbrev pub IsRound : {W C : Type 0} → (W → Topology) → (W → ChildTopology → W → ℕ → ℕ → Type 0) → (W → Cause → ℕ → ℕ → Type 0)
     → (Topology → ChildTopology → C → C → ℕ → ℕ → Type 0) → (Topology → ChildTopology → C → Cause → ℕ → ℕ → Type 0)
@@ -47,11 +55,20 @@ abbrev pub IsRound : {W C : Type 0} → (W → Topology) → (W → ChildTopolog
 IsRound level_of Makes Refuses Follows Fails from result old new =
     MatchResult result (λ next. IsNext level_of Makes Follows from next old new) (λ cause. IsCause level_of Makes Refuses Follows Fails from cause old new)
 
--- A round in which the visitor also takes the level that is left behind. The last arguments are the result, the visitor and
--- the number of steps before and after.
+-- The visitor takes the level that is left behind, or memory runs out for it. Where there is no next level, the visitor is as
+-- before, and the result has the same cause. The last arguments are the next level, the result, and the visitor before and
+-- after.
+abbrev pub IsLeftFor : {W C V : Type 0} → (V → W → C → V → Type 0) → Reached W C → Result (Reached W C) Cause → Result (Reached W C) Cause → V → V → Type 0
+IsLeftFor Takes from next result before after =
+    MatchResult next
+    (λ next. MatchResult result (λ kept. (kept ≡ next) × Takes before from.level from.carried after) (λ cause. cause ≡ Memory))
+    (λ cause. (result ≡ Err cause) × (after ≡ before))
+
+-- A round in which the visitor also takes the level that is left behind. The last arguments are the result, the visitor before
+-- and after, and the number of steps before and after.
 abbrev pub IsTakenRound : {W C V : Type 0} → (W → Topology) → (W → ChildTopology → W → ℕ → ℕ → Type 0) → (W → Cause → ℕ → ℕ → Type 0)
     → (Topology → ChildTopology → C → C → ℕ → ℕ → Type 0) → (Topology → ChildTopology → C → Cause → ℕ → ℕ → Type 0)
-    → (W → C → V → Type 0) → Reached W C → Result (Reached W C) Cause → V → ℕ → ℕ → Type 0
-IsTakenRound level_of Makes Refuses Follows Fails Taken from result visitor old new =
-    MatchResult result (λ next. IsNext level_of Makes Follows from next old new × Taken from.level from.carried visitor)
-    (λ cause. IsCause level_of Makes Refuses Follows Fails from cause old new)
+    → (V → W → C → V → Type 0) → Reached W C → Result (Reached W C) Cause → V → V → ℕ → ℕ → Type 0
+IsTakenRound level_of Makes Refuses Follows Fails Takes from result before after old new =
+    MatchResult result (λ next. IsNext level_of Makes Follows from next old new × Takes before from.level from.carried after)
+    (λ cause. IsFailed level_of Makes Refuses Follows Fails from cause before after old new)

@@ -5,7 +5,7 @@ use Rattle.level_topology.specs.Child.{ChildTopology}
 use Rattle.level_walk.specs.declared.fault.Cause.{Cause}
 use Rattle.level_walk.specs.declared.fault.WalkFault.{WalkFault}
 use Rattle.level_walk.specs.declared.reached.Reached.{Reached}
-use Rattle.level_walk.specs.Round.{IsNext, IsCause}
+use Rattle.level_walk.specs.Round.{IsNext, IsFailed}
 
 -- the place that a walk has reached, with its visitor and the number of steps so far
 pub record Place (W C V : Type 0) : Type 0 where
@@ -33,16 +33,16 @@ abbrev pub IsWalked : {W C V : Type 0} → (W → Topology) → (W → ChildTopo
 IsWalked level_of Makes Follows Takes start k end = IsAfter (LeadsTo level_of Makes Follows Takes) start k end
 
 -- The walk reaches a place before its depth. The fault has the number of the next level, and the cause that the walk does not
--- reach it.
+-- reach it. The visitor is that of the place, unless memory ran out for it.
 pub record IsStopped {W C V : Type 0} (level_of : W → Topology) (Makes : W → ChildTopology → W → ℕ → ℕ → Type 0) (Refuses : W → Cause → ℕ → ℕ → Type 0)
     (Follows : Topology → ChildTopology → C → C → ℕ → ℕ → Type 0) (Fails : Topology → ChildTopology → C → Cause → ℕ → ℕ → Type 0)
-    (Takes : V → W → C → V → Type 0) (start : Place W C V) (depth : ℕ) (fault : WalkFault) (new : ℕ) : Type 0 where
+    (Takes : V → W → C → V → Type 0) (start : Place W C V) (depth : ℕ) (fault : WalkFault) (visitor : V) (new : ℕ) : Type 0 where
   pub k : ℕ
   pub last : Place W C V
   pub within : k < depth
   pub walked : IsWalked level_of Makes Follows Takes start k last
   pub number : fault.level ≡ k + 1
-  pub cause : IsCause level_of Makes Refuses Follows Fails last.reached fault.cause last.steps new
+  pub failed : IsFailed level_of Makes Refuses Follows Fails last.reached fault.cause last.visitor visitor last.steps new
 
 -- A walk of this many levels reaches its end or stops before. The last arguments are the visitor and the number of steps by
 -- then.
@@ -51,4 +51,4 @@ abbrev pub IsWalk : {W C V : Type 0} → (W → Topology) → (W → ChildTopolo
     → (V → W → C → V → Type 0) → Place W C V → ℕ → Result (Reached W C) WalkFault → V → ℕ → Type 0
 IsWalk level_of Makes Refuses Follows Fails Takes start depth result visitor new =
     MatchResult result (λ end. IsWalked level_of Makes Follows Takes start depth (at end visitor new))
-    (λ fault. IsStopped level_of Makes Refuses Follows Fails Takes start depth fault new)
+    (λ fault. IsStopped level_of Makes Refuses Follows Fails Takes start depth fault visitor new)

@@ -1,7 +1,7 @@
 //! One round of a walk.
 
 ghost use Rattle.std.specs.Prelude.{◌≡◌, ℕ, suc, Ok, Err, IfOk, MatchResult};
-ghost use Rattle.level_walk.specs.Round.{IsRound, IsTakenRound};
+ghost use Rattle.level_walk.specs.Round.{IsRound, IsLeftFor, IsTakenRound};
 
 use crate::carrier::Carrier;
 use crate::fault::Cause;
@@ -63,7 +63,22 @@ fn leave<V: Visitor<W, C>, W: Drop, C: Drop>(
     }
 }
 
-// Returns the next level and its data; the visitor takes the level that is left behind.
+// Gives the visitor the level that is left behind, if there is a next one. Otherwise the visitor takes nothing.
+fn leave_for<V: Visitor<W, C>, W: Drop, C: Drop>(
+    visitor: &mut V,
+    from: Reached<W, C>,
+    next: Result<Reached<W, C>, Cause>,
+) -> Result<Reached<W, C>, Cause>
+    ensures { IsLeftFor V.Takes from next result visitor.old visitor.new }
+{
+    match next {
+        Ok(next) => leave(visitor, from, next),
+        Err(why) => Err(why),
+    }
+}
+
+// Returns the next level and its data; the visitor takes the level that is left behind. After a fault the visitor is as
+// before, unless memory ran out for it.
 pub(crate) fn round<S: NextLevel<L>, C: Carrier<L>, V: Visitor<S::Level, C::Carried>, L: Ledger>(
     alloc: Global,
     step: &S,
@@ -75,10 +90,10 @@ pub(crate) fn round<S: NextLevel<L>, C: Carrier<L>, V: Visitor<S::Level, C::Carr
     requires ready { (left : ℕ) × S.IsReady step.now from.level (suc left) }
     requires fits { C.Fits carrier.now (S.level_of from.level) from.carried }
     ensures made { IsTakenRound S.level_of (S.Makes step.now) (S.Refuses step.now) (C.Follows carrier.now) (C.Fails carrier.now)
-        (V.Takes visitor.old) from result visitor.new steps.old steps.new }
+        V.Takes from result visitor.old visitor.new steps.old steps.new }
     ensures ready { (left : ℕ) → S.IsReady step.now from.level (suc left) → IfOk result (λ next. S.IsReady step.now next.level left) }
     ensures fits { IfOk result (λ next. C.Fits carrier.now (S.level_of next.level) next.carried) }
 {
-    let next = next(alloc, step, carrier, &from, steps)?;
-    leave(visitor, from, next)
+    let next = next(alloc, step, carrier, &from, steps);
+    leave_for(visitor, from, next)
 }

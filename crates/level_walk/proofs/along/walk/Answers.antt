@@ -7,7 +7,7 @@ pub returns-in_err-reached : goal.returns-in_err-reached
 returns-in_err-reached g c =
     handed-on _ c.in_err-reached.field-0.0 _ _ c.from_residual.ensures.0 c.from_residual.ensures.1
     (stopped g.S.NextLevel.level_of (g.S.NextLevel.Makes c.args.step.now) (g.S.NextLevel.Refuses c.args.step.now) (g.C.Carrier.Follows c.args.carrier.now) (g.C.Carrier.Fails c.args.carrier.now)
-    g.V.Visitor.Takes (at c.args.start c.args.visitor.now c.args.steps.now) c.args.depth c.loop-k.k (at c.loop-k.reached c.loop-k.visitor c.loop-k.steps) c.in_err-reached.field-0.0 c.round.new.steps
+    g.V.Visitor.Takes (at c.args.start c.args.visitor.now c.args.steps.now) c.args.depth c.loop-k.k (at c.loop-k.reached c.loop-k.visitor c.loop-k.steps) c.in_err-reached.field-0.0 c.round.new.visitor c.round.new.steps
     c.loop-k-test.true c.loop-k.invariant.walked
     (changed c.round.result c.in_err-reached.field-0.0 (λ cause. record { level = c.loop-k.k + 1; cause = cause }) _ _ c.in_err-reached.ensures c.round.ensures.made))
 
