@@ -103,8 +103,8 @@ module _ {C V : Type 0} (Follow : Topology → ChildTopology → C → C → ℕ
         let same = free _ _ _ _ _ _ without.made.followed in
         without-memory depth k last new within is cause without.memory (omega (arith, made.steps.most, same)) (omega (arith, made.steps.later, same))
 
-    pub stopped-within : (depth : ℕ) (fault : WalkFault) (new : ℕ) → IsStopped (λ t. t) IsMade IsRefused Follow Fail Takes start depth fault new
+    pub stopped-within : (depth : ℕ) (fault : WalkFault) (visitor : V) (new : ℕ) → IsStopped (λ t. t) IsMade IsRefused Follow Fail Takes start depth fault visitor new
         → Stopped depth fault.level fault.cause new
-    stopped-within depth fault new is =
+    stopped-within depth fault visitor new is =
         subst (λ n. Stopped depth n fault.cause new) (sym is.number)
-        (stopped-at depth is.k is.last new is.within (walked-to is.k is.last is.walked) fault.cause is.cause)
+        (stopped-at depth is.k is.last new is.within (walked-to is.k is.last is.walked) fault.cause is.failed.cause)
