@@ -50,6 +50,6 @@ module _ {C V : Type 0} (counted : V → List Counts) (start : Place Topology C 
       subst (λ n. counted end.visitor ≡ map (λ n. counts_of (refined_level base n)) (range_with_len 0 n)) next
       (counts-more base k before.reached.level.level (counted before.visitor) (counted end.visitor) level (walked-counts none k before walked) leads.taken)
 
-  pub stopped-levels : (depth : ℕ) (fault : WalkFault) (new : ℕ) → IsStopped (λ t. t) IsMade IsRefused Follow Fail Takes start depth fault new
+  pub stopped-levels : (depth : ℕ) (fault : WalkFault) (visitor : V) (new : ℕ) → IsStopped (λ t. t) IsMade IsRefused Follow Fail Takes start depth fault visitor new
       → IsStoppedAt base depth fault.level fault.cause start.steps new
   stopped-levels = stopped-within Follow Takes (λ t child before next old new same. same) start Fail (λ t child before cause old new never. absurd never)

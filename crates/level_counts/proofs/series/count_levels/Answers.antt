@@ -8,11 +8,11 @@ use Rattle.level_counts.proofs.series.count_levels.Goals as goal
 pub returns-in_err-end-clause-counted : goal.returns-in_err-end-clause-counted
 returns-in_err-end-clause-counted g c =
     handed-on _ c.in_err-end.field-0.0 _ _ c.from_residual-in_err-end.ensures.0 c.from_residual-in_err-end.ensures.1
-    (stopped-levels (λ v. map seen_counts v.counts.items) _ c.args.depth c.in_err-end.field-0.0 c.walk.new.steps c.in_err-end.ensures).fault
+    (stopped-levels (λ v. map seen_counts v.counts.items) _ c.args.depth c.in_err-end.field-0.0 c.walk.new.visitor c.walk.new.steps c.in_err-end.ensures).fault
 
 pub returns-in_err-end-clause-steps : goal.returns-in_err-end-clause-steps
 returns-in_err-end-clause-steps g c =
-    (stopped-levels (λ v. map seen_counts v.counts.items) _ c.args.depth c.in_err-end.field-0.0 c.walk.new.steps c.in_err-end.ensures).steps
+    (stopped-levels (λ v. map seen_counts v.counts.items) _ c.args.depth c.in_err-end.field-0.0 c.walk.new.visitor c.walk.new.steps c.in_err-end.ensures).steps
 
 pub returns-in_err-counts-clause-steps : goal.returns-in_err-counts-clause-steps
 returns-in_err-counts-clause-steps g c =
