@@ -57,6 +57,6 @@ module _ {C V : Type 0} (seen : C → Origins) (Takes : V → Topology → C →
       origins-more base k before.reached.level made.child (seen before.reached.carried) (seen end.reached.carried) over level made.made.refined
       (walked-origins over at k before walked) made.followed.0
 
-  pub stopped-levels : (depth : ℕ) (fault : WalkFault) (new : ℕ) → IsStopped (λ t. t) IsMade IsRefused Follow Fail Takes start depth fault new
+  pub stopped-levels : (depth : ℕ) (fault : WalkFault) (visitor : V) (new : ℕ) → IsStopped (λ t. t) IsMade IsRefused Follow Fail Takes start depth fault visitor new
       → IsStoppedAt base depth fault.level fault.cause start.steps new
   stopped-levels = stopped-within Follow Takes (λ t child before next old new followed. followed.1) start Fail (λ t child before cause old new failed. failed)

@@ -22,11 +22,11 @@ origins_at_end-requires g c =
 pub returns-in_err-end-clause-found : goal.returns-in_err-end-clause-found
 returns-in_err-end-clause-found g c =
     handed-on _ c.in_err-end.field-0.0 _ _ c.from_residual-in_err-end.ensures.0 c.from_residual-in_err-end.ensures.1
-    (stopped-levels (λ o. seen_origins o) (λ _ _ _ _. Unit {0}) _ c.args.depth c.in_err-end.field-0.0 c.walk.new.steps c.in_err-end.ensures).fault
+    (stopped-levels (λ o. seen_origins o) (λ _ _ _ _. Unit {0}) _ c.args.depth c.in_err-end.field-0.0 c.walk.new.visitor c.walk.new.steps c.in_err-end.ensures).fault
 
 pub returns-in_err-end-clause-steps : goal.returns-in_err-end-clause-steps
 returns-in_err-end-clause-steps g c =
-    (stopped-levels (λ o. seen_origins o) (λ _ _ _ _. Unit {0}) _ c.args.depth c.in_err-end.field-0.0 c.walk.new.steps c.in_err-end.ensures).steps
+    (stopped-levels (λ o. seen_origins o) (λ _ _ _ _. Unit {0}) _ c.args.depth c.in_err-end.field-0.0 c.walk.new.visitor c.walk.new.steps c.in_err-end.ensures).steps
 
 pub returns-clause-found : goal.returns-clause-found
 returns-clause-found g c =
