@@ -136,8 +136,8 @@ module _ {C V : Type 0} (rows : C → List Row) (Takes : V → Topology → C �
           ),
         )
 
-    pub stopped-values : (depth : ℕ) (fault : WalkFault) (new : ℕ) → IsStopped (λ t. t) IsMade IsRefused Follow Fail Takes start depth fault new
+    pub stopped-values : (depth : ℕ) (fault : WalkFault) (visitor : V) (new : ℕ) → IsStopped (λ t. t) IsMade IsRefused Follow Fail Takes start depth fault visitor new
         → Stopped depth fault.level fault.cause new
-    stopped-values depth fault new is =
+    stopped-values depth fault visitor new is =
         subst (λ n. Stopped depth n fault.cause new) (sym is.number)
-        (stopped-at depth is.k is.last new is.within (walked-values is.k is.last is.walked) fault.cause is.cause)
+        (stopped-at depth is.k is.last new is.within (walked-values is.k is.last is.walked) fault.cause is.failed.cause)

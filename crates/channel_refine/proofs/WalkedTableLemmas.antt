@@ -101,8 +101,8 @@ module _ {V : Type 0} (Takes : V → Topology → Table → V → Type 0) (chann
           ),
         )
 
-    pub stopped-table : (depth : ℕ) (fault : WalkFault) (new : ℕ) → IsStopped (λ t. t) IsMade IsRefused Follow Fail Takes start depth fault new
+    pub stopped-table : (depth : ℕ) (fault : WalkFault) (visitor : V) (new : ℕ) → IsStopped (λ t. t) IsMade IsRefused Follow Fail Takes start depth fault visitor new
         → Stopped depth fault.level fault.cause new
-    stopped-table depth fault new is =
+    stopped-table depth fault visitor new is =
         subst (λ n. Stopped depth n fault.cause new) (sym is.number)
-        (stopped-at depth is.k is.last new is.within (walked-table is.k is.last is.walked) fault.cause is.cause)
+        (stopped-at depth is.k is.last new is.within (walked-table is.k is.last is.walked) fault.cause is.failed.cause)

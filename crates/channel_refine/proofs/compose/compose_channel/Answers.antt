@@ -24,14 +24,14 @@ returns-in_err-reached-clause-composed g c =
     handed-on _ c.in_err-reached.field-0.0 _ _ c.from_residual-in_err-reached.ensures.0 c.from_residual-in_err-reached.ensures.1
     (stopped-table (λ _ _ _ _. Unit {0}) c.args.base c.most-most.result c.most-most.ensures (scheme_of c.scheme-scheme.result) c.scheme-scheme.ensures _
     (reached-none c.args.base c.into_level-level.result c.in_ok-carried.carried c.facts-2.ensures c.into_level-level.ensures.base c.into_level-level.ensures.level c.facts.ensures (c.in_ok-carried.ensures ∙ ap identity_table c.points.ensures))
-    c.args.depth c.in_err-reached.field-0.0 c.walk.new.steps c.in_err-reached.ensures).0
+    c.args.depth c.in_err-reached.field-0.0 c.walk.new.visitor c.walk.new.steps c.in_err-reached.ensures).0
 
 pub returns-in_err-reached-clause-steps : goal.returns-in_err-reached-clause-steps
 returns-in_err-reached-clause-steps g c =
     let is =
     stopped-table (λ _ _ _ _. Unit {0}) c.args.base c.most-most.result c.most-most.ensures (scheme_of c.scheme-scheme.result) c.scheme-scheme.ensures _
     (reached-none c.args.base c.into_level-level.result c.in_ok-carried.carried c.facts-2.ensures c.into_level-level.ensures.base c.into_level-level.ensures.level c.facts.ensures (c.in_ok-carried.ensures ∙ ap identity_table c.points.ensures))
-    c.args.depth c.in_err-reached.field-0.0 c.walk.new.steps c.in_err-reached.ensures in
+    c.args.depth c.in_err-reached.field-0.0 c.walk.new.visitor c.walk.new.steps c.in_err-reached.ensures in
     record { most = is.1.0; later = is.1.1 }
 
 pub returns-clause-composed : goal.returns-clause-composed

@@ -29,7 +29,7 @@ returns-in_err-reached-clause-refined g c =
     (stopped-values (λ values. rows_of g.P.Primvar.numbers values.items) (λ _ _ _ _. Unit {0}) c.args.base (rows_of g.P.Primvar.numbers c.args.controls.items)
     c.most-most.result c.most-most.ensures (scheme_of c.scheme-scheme.result) c.scheme-scheme.ensures _
     (reached-none c.args.base c.into_level-level.result (rows_of g.P.Primvar.numbers c.args.controls.items) c.facts-2.ensures c.into_level-level.ensures.base c.into_level-level.ensures.level c.facts.ensures c.requires.controls)
-    c.args.depth c.in_err-reached.field-0.0 c.walk.new.steps c.in_err-reached.ensures).0
+    c.args.depth c.in_err-reached.field-0.0 c.walk.new.visitor c.walk.new.steps c.in_err-reached.ensures).0
 
 pub returns-in_err-reached-clause-steps : goal.returns-in_err-reached-clause-steps
 returns-in_err-reached-clause-steps g c =
@@ -37,7 +37,7 @@ returns-in_err-reached-clause-steps g c =
     (stopped-values (λ values. rows_of g.P.Primvar.numbers values.items) (λ _ _ _ _. Unit {0}) c.args.base (rows_of g.P.Primvar.numbers c.args.controls.items)
     c.most-most.result c.most-most.ensures (scheme_of c.scheme-scheme.result) c.scheme-scheme.ensures _
     (reached-none c.args.base c.into_level-level.result (rows_of g.P.Primvar.numbers c.args.controls.items) c.facts-2.ensures c.into_level-level.ensures.base c.into_level-level.ensures.level c.facts.ensures c.requires.controls)
-    c.args.depth c.in_err-reached.field-0.0 c.walk.new.steps c.in_err-reached.ensures).1
+    c.args.depth c.in_err-reached.field-0.0 c.walk.new.visitor c.walk.new.steps c.in_err-reached.ensures).1
 
 pub returns-clause-refined : goal.returns-clause-refined
 returns-clause-refined g c =
