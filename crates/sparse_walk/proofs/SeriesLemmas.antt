@@ -125,8 +125,8 @@ module _ {C : Type 0} (test : FaceFacts → Bool) (base : Level) (depth : ℕ) (
       },
     )
 
-    pub stopped-levels : (fault : WalkFault) (new : ℕ) → IsStopped topology_of (IsMade test) (IsRefused test) Follow Fail Keeps start depth fault new
+    pub stopped-levels : (fault : WalkFault) (visitor : KeptSoFar C) (new : ℕ) → IsStopped topology_of (IsMade test) (IsRefused test) Follow Fail Keeps start depth fault visitor new
         → Stopped fault.level fault.cause new
-    stopped-levels fault new is =
+    stopped-levels fault visitor new is =
         subst (λ n. Stopped n fault.cause new) (sym is.number)
-        (stopped-at is.k is.last new is.within (walked-to is.k is.last (omega (arith, is.within)) is.walked) fault.cause is.cause)
+        (stopped-at is.k is.last new is.within (walked-to is.k is.last (omega (arith, is.within)) is.walked) fault.cause is.failed.cause)
