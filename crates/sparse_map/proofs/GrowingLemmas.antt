@@ -147,11 +147,11 @@ module _ {C : Type 0} (test : FaceFacts → Bool) (base : Level) (depth : ℕ) (
       },
     )
 
-    pub stopped-levels : (fault : WalkFault) (new : ℕ) → IsStopped topology_of (IsMade test) (IsRefused test) Follow Fail Takes start depth fault new
+    pub stopped-levels : (fault : WalkFault) (visitor : LevelMap) (new : ℕ) → IsStopped topology_of (IsMade test) (IsRefused test) Follow Fail Takes start depth fault visitor new
         → Stopped fault.level fault.cause new
-    stopped-levels fault new is =
+    stopped-levels fault visitor new is =
         subst (λ n. Stopped n fault.cause new) (sym is.number)
-        (stopped-at is.k is.last new is.within (walked-to is.k is.last (omega (arith, is.within)) is.walked) fault.cause is.cause)
+        (stopped-at is.k is.last new is.within (walked-to is.k is.last (omega (arith, is.within)) is.walked) fault.cause is.failed.cause)
 
 -- the walk begins at the base, with the map of level 0
 pub at-begin : {C : Type 0} (test : FaceFacts → Bool) (base : Topology) → IsSparseBase base → IsTopology base → (depth : ℕ) (start : Place Walked C LevelMap) → start.reached.level ≡ walked (base_of base) []

@@ -17,14 +17,14 @@ returns-in_err-end-clause-map g c =
     handed-on _ c.in_err-end.field-0.0 _ _ c.from_residual-in_err-end.ensures.0 c.from_residual-in_err-end.ensures.1
     (stopped-levels test c.args.base.level c.args.depth _
     (at-begin test c.args.base c.requires.base c.facts.ensures c.args.depth _ c.in_ok-level.ensures c.sparse.result.now c.sparse.ensures c.in_ok-growing.ensures)
-    c.in_err-end.field-0.0 c.walk.new.steps c.in_err-end.ensures).0
+    c.in_err-end.field-0.0 c.walk.new.visitor c.walk.new.steps c.in_err-end.ensures).0
 
 pub returns-in_err-end-clause-steps : goal.returns-in_err-end-clause-steps
 returns-in_err-end-clause-steps g c =
     let test = g.T.FaceTest.meets c.args.rule.now.1 in
     (stopped-levels test c.args.base.level c.args.depth _
     (at-begin test c.args.base c.requires.base c.facts.ensures c.args.depth _ c.in_ok-level.ensures c.sparse.result.now c.sparse.ensures c.in_ok-growing.ensures)
-    c.in_err-end.field-0.0 c.walk.new.steps c.in_err-end.ensures).1
+    c.in_err-end.field-0.0 c.walk.new.visitor c.walk.new.steps c.in_err-end.ensures).1
 
 pub returns-in_err-into_map-clause-steps : goal.returns-in_err-into_map-clause-steps
 returns-in_err-into_map-clause-steps g c =
