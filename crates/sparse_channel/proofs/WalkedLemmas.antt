@@ -219,8 +219,8 @@ module _ (test : FaceFacts → Bool) (channel : Channel) (depth : ℕ) where
         },
       )
 
-      pub stopped-levels : (fault : WalkFault) (new : ℕ) → IsStopped topology_of (IsMade test) (IsRefused test) Follow Fail Keeps start depth fault new
+      pub stopped-levels : (fault : WalkFault) (visitor : KeptSoFar Table) (new : ℕ) → IsStopped topology_of (IsMade test) (IsRefused test) Follow Fail Keeps start depth fault visitor new
           → IsSparseFaultTo test channel depth fault × AreComposeSteps test channel depth start.steps new
-      stopped-levels fault new is =
+      stopped-levels fault visitor new is =
           subst (λ n. Stopped n fault.cause new) (sym is.number)
-          (stopped-at is.k is.last new is.within (walked-to is.k is.last (omega (arith, is.within)) is.walked) fault.cause is.cause)
+          (stopped-at is.k is.last new is.within (walked-to is.k is.last (omega (arith, is.within)) is.walked) fault.cause is.failed.cause)

@@ -20,7 +20,7 @@ returns-in_err-end-clause-levels g c =
     (stopped-levels test c.args.base c.args.depth c.most-most.result c.most-most.ensures (scheme_of c.scheme-scheme.result) c.scheme-scheme.ensures _
     (started test c.args.base c.args.depth c.into_level-level.result c.into_level-level.ensures.base c.into_level-level.ensures.level c.facts-2.ensures c.facts.ensures c.most-most.result c.most-most.ensures (scheme_of c.scheme-scheme.result) c.scheme-scheme.ensures _
     c.in_ok-start.ensures c.in_ok-keeping.ensures)
-    c.in_err-end.field-0.0 c.walk.new.steps c.in_err-end.ensures).0
+    c.in_err-end.field-0.0 c.walk.new.visitor c.walk.new.steps c.in_err-end.ensures).0
 
 pub returns-in_err-end-clause-steps : goal.returns-in_err-end-clause-steps
 returns-in_err-end-clause-steps g c =
@@ -28,7 +28,7 @@ returns-in_err-end-clause-steps g c =
     (stopped-levels test c.args.base c.args.depth c.most-most.result c.most-most.ensures (scheme_of c.scheme-scheme.result) c.scheme-scheme.ensures _
     (started test c.args.base c.args.depth c.into_level-level.result c.into_level-level.ensures.base c.into_level-level.ensures.level c.facts-2.ensures c.facts.ensures c.most-most.result c.most-most.ensures (scheme_of c.scheme-scheme.result) c.scheme-scheme.ensures _
     c.in_ok-start.ensures c.in_ok-keeping.ensures)
-    c.in_err-end.field-0.0 c.walk.new.steps c.in_err-end.ensures).1
+    c.in_err-end.field-0.0 c.walk.new.visitor c.walk.new.steps c.in_err-end.ensures).1
 
 pub returns-in_err-into_levels-clause-steps : goal.returns-in_err-into_levels-clause-steps
 returns-in_err-into_levels-clause-steps g c =
