@@ -10,7 +10,7 @@ use Rattle.subdiv_model.specs.SparseTexture.{SparseTrack, points_part}
 use Rattle.far_model.specs.Answer.{sparse_positions}
 use Rattle.far_model.specs.Command.{SparseOptions}
 use Rattle.ratio128.specs.declared.point.Point3.{Point3}
-use Rattle.sparse_faces.specs.declared.values.SparseValues.{SparseValues}
+use Rattle.sparse_level.specs.declared.values.SparseValues.{SparseValues}
 use Rattle.far_text.specs.Points.{CanBeWritten, IsSamePoint, point_of, points_of}
 use Rattle.mesh_answers.specs.SparseLevels.{ArePointsLevels, IsPointsLevel, sparse_position_faults}
 use Rattle.mesh_arrays.specs.Faults.{IsMeshOf}

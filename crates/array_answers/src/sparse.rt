@@ -14,7 +14,7 @@ use mesh_answers::sparse_points;
 use mesh_arrays::{MeshArrays, mesh_of_arrays};
 use ratio128::{Point3, Steps};
 use raw_mesh::RawMesh;
-use sparse_faces::SparseValues;
+use sparse_level::SparseValues;
 use std::alloc::Global;
 use std::marker::Brand;
 use std::sync::ledger::{Blank, Ledger};

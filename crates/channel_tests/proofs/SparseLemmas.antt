@@ -14,7 +14,7 @@ use Rattle.subdiv_model.specs.SparseTexture.{selected_to}
 use Rattle.primvar_refine.specs.Rows.{Row, row_at}
 use Rattle.channel_refine.specs.Evaluated.{control_rows}
 use Rattle.channel_refine.specs.Refined.{AreControls}
-use Rattle.sparse_faces.specs.declared.values.SparseValues.{SparseValues}
+use Rattle.sparse_level.specs.declared.values.SparseValues.{SparseValues}
 use Rattle.level_walk.specs.declared.fault.WalkFault.{WalkFault}
 use Rattle.sparse_channel.specs.Refined.{AreSparseTo, IsSparseFaultTo}
 use Rattle.sparse_channel.specs.View.{sparse_rows}

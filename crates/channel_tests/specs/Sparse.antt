@@ -9,7 +9,7 @@ use Rattle.subdiv_model.specs.Feature.{is_feature}
 use Rattle.subdiv_model.specs.Channel.{Channel}
 use Rattle.subdiv_model.specs.Sparse.{predicate_to}
 use Rattle.channel_refine.specs.Base.{channel_of}
-use Rattle.sparse_faces.specs.declared.values.SparseValues.{SparseValues}
+use Rattle.sparse_level.specs.declared.values.SparseValues.{SparseValues}
 use Rattle.sparse_face_varying.specs.Chosen.{AreWritten}
 
 -- the coordinates of a point

@@ -21,7 +21,7 @@ use ratio128::{Memory, Point3, Steps};
 use raw_mesh::RawMesh;
 use sparse_channel::refine_sparse;
 use sparse_face_varying::{refine_sparse_texture, selected_levels};
-use sparse_faces::SparseValues;
+use sparse_level::SparseValues;
 use std::alloc::Global;
 use std::marker::Brand;
 use std::process::Abort;

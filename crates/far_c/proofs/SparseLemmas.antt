@@ -6,7 +6,7 @@ use Rattle.far_model.specs.Answer.{positions_of, predicate_for}
 use Rattle.far_model.specs.Command.{SparseOptions}
 use Rattle.flat_arrays.specs.Words.{natural_of}
 use Rattle.ratio128.specs.declared.point.Point3.{Point3}
-use Rattle.sparse_faces.specs.declared.values.SparseValues.{SparseValues}
+use Rattle.sparse_level.specs.declared.values.SparseValues.{SparseValues}
 use Rattle.mesh_answers.specs.SparseLevels.{written_denominators}
 use Rattle.mesh_arrays.specs.Arrays.{mesh_of_arrays}
 use Rattle.mesh_arrays.specs.declared.arrays.MeshArrays.{MeshArrays}

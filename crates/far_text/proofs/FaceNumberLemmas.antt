@@ -9,7 +9,7 @@ use Rattle.std.proofs.lemmas.List.Kept.{AllPairs-from_increasing}
 use Rattle.std.proofs.lemmas.List.Sums.{fails_before_first, passes_at_first, position_or_len_is, prefix_len-le-length}
 use Rattle.subdiv_model.specs.SparseText.{WrittenLevel}
 use Rattle.subdiv_model.specs.SparseTexture.{corners_of_face}
-use Rattle.sparse_faces.specs.View.{face_at}
+use Rattle.sparse_level.specs.Faces.{face_at}
 use Rattle.far_text.specs.TexturedLines.{place_in}
 use Rattle.far_text.proofs.SparseLemmas.{no_face}
 

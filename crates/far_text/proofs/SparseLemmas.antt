@@ -15,7 +15,7 @@ use Rattle.far_text.specs.Lines.{corner_word, valued_line}
 use Rattle.far_text.specs.CountLines.{count_words}
 use Rattle.ratio128.specs.declared.point.Point3.{Point3}
 use Rattle.ratio128.specs.declared.valued.Valued.{Valued}
-use Rattle.sparse_faces.specs.declared.values.SparseValues.{SparseValues}
+use Rattle.sparse_level.specs.declared.values.SparseValues.{SparseValues}
 use Rattle.far_text.specs.Points.{HasDenominators, IsSamePoint, point_of, points_of}
 use Rattle.far_text.specs.SparseLines.{PointedLevel, level_over, numbered_level, pointed, sparse_lines, sparse_mesh_text}
 use Rattle.far_text.specs.declared.sparse.SparseMesh.{SparseMesh}

@@ -15,8 +15,8 @@ use Rattle.subdiv_model.specs.NumberText.{number_text}
 use Rattle.subdiv_model.specs.Text.{corner_text, point_line, texture_line}
 use Rattle.subdiv_model.specs.SparseText.{WrittenFace, WrittenLevel, kind_text}
 use Rattle.subdiv_model.specs.SparseTexture.{SparsePart, SparseTrack, corner_words, corners_of_face, points_part, texture_part, textured_level_line, textured_level_text, textured_sparse_line, textured_sparse_text}
-use Rattle.sparse_faces.specs.View.{face_at}
-use Rattle.sparse_faces.specs.declared.values.SparseValues.{SparseValues}
+use Rattle.sparse_level.specs.Faces.{face_at}
+use Rattle.sparse_level.specs.declared.values.SparseValues.{SparseValues}
 use Rattle.far_text.specs.CountLines.{count_words}
 use Rattle.far_text.specs.Lines.{corner_word, textured_word, valued_line, valued_texture_line}
 use Rattle.far_text.specs.Points.{HasDenominators, point_of, points_of}

@@ -6,7 +6,7 @@ use Rattle.subdiv_model.specs.Refined.{Point}
 use Rattle.subdiv_model.specs.Sparse.{FacePredicate}
 use Rattle.subdiv_model.specs.SparseText.{WrittenLevel, points_with, sparse_level_text, written_level, written_points}
 use Rattle.ratio128.specs.declared.point.Point3.{Point3}
-use Rattle.sparse_faces.specs.declared.values.SparseValues.{SparseValues}
+use Rattle.sparse_level.specs.declared.values.SparseValues.{SparseValues}
 use Rattle.far_text.specs.Points.{CanBeWritten, points_of}
 use Rattle.far_text.specs.declared.sparse.SparseMesh.{SparseMesh}
 

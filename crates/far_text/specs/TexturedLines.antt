@@ -11,7 +11,7 @@ use Rattle.subdiv_model.specs.SparseText.{WrittenFace, WrittenLevel, kind_text}
 use Rattle.subdiv_model.specs.SparseTexture.{SparsePart, corner_words, corners_of_face, textured_level_text}
 use Rattle.ratio128.specs.declared.point.Point2.{Point2}
 use Rattle.ratio128.specs.declared.point.Point3.{Point3}
-use Rattle.sparse_faces.specs.declared.values.SparseValues.{SparseValues}
+use Rattle.sparse_level.specs.declared.values.SparseValues.{SparseValues}
 use Rattle.far_text.specs.Points.{CanBeWritten, points_of}
 use Rattle.far_text.specs.Texture.{CanTextureBeWritten, texture_points_of}
 use Rattle.far_text.specs.declared.textured_sparse.TexturedSparse.{TexturedSparse}

@@ -3,7 +3,7 @@
 ghost use Rattle.std.specs.Prelude.{◌≡◌, ◌∷◌, ◌++◌, ◌<◌, ◌≤◌, false, length, codes, IfSome};
 ghost use Rattle.std.specs.List.{All, flat_map};
 ghost use Rattle.subdiv_model.specs.SparseText.{kind_text, sparse_face_line, sparse_level_line, sparse_level_text};
-ghost use Rattle.sparse_faces.specs.View.{kind_of, face_at};
+ghost use Rattle.sparse_level.specs.Faces.{kind_of, face_at};
 ghost use Rattle.obj_out.specs.Puts.{Puts};
 ghost use Rattle.far_text.specs.Points.{CanBeWritten, points_of};
 ghost use Rattle.far_text.specs.SparseLines.{CanSparseBePut, sparse_mesh_text};
@@ -13,7 +13,7 @@ use crate::points::put_points;
 use far_io::{Sink, WriteFailed};
 use obj_out::Out;
 use ratio128::Point3;
-use sparse_faces::{FaceKind, SparseFaces, SparseValues};
+use sparse_level::{FaceKind, SparseFaces, SparseValues};
 
 /// The sparse levels of a mesh, from level 0 on, with their points.
 ///

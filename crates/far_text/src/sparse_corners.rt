@@ -4,14 +4,14 @@ ghost use Rattle.std.specs.Prelude.{◌≡◌, ◌≤◌, false, ◌&&◌, nat_e
 ghost use Rattle.std.specs.Option.{option_map};
 ghost use Rattle.std.specs.List.Sorted.{IsStrictlyIncreasing};
 ghost use Rattle.subdiv_model.specs.SparseTexture.{corner_words, corners_of_face};
-ghost use Rattle.sparse_faces.specs.View.{face_at};
+ghost use Rattle.sparse_level.specs.Faces.{face_at};
 ghost use Rattle.obj_out.specs.Puts.{Puts};
 ghost use Rattle.far_text.specs.TexturedLines.{place_in, spaced};
 
 use crate::{faces, textured_faces};
 use far_io::{Sink, WriteFailed};
 use obj_out::Out;
-use sparse_faces::SparseFaces;
+use sparse_level::SparseFaces;
 
 // Returns the first place, from `from` on, of a face whose number is not below `number`, or the number of faces if none is.
 pub(crate) fn place_from(texture: &SparseFaces, from: u32, number: u64) -> u32

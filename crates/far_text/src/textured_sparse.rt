@@ -5,7 +5,7 @@ ghost use Rattle.std.specs.Prelude.{◌≡◌, ◌<◌, ◌≤◌, false, length
 ghost use Rattle.std.specs.Option.{option_map};
 ghost use Rattle.std.specs.List.{flat_map};
 ghost use Rattle.subdiv_model.specs.SparseTexture.{textured_level_line, textured_level_text, textured_sparse_line};
-ghost use Rattle.sparse_faces.specs.View.{face_at};
+ghost use Rattle.sparse_level.specs.Faces.{face_at};
 ghost use Rattle.obj_out.specs.Puts.{Puts};
 ghost use Rattle.far_text.specs.TexturedLines.{AreFacesAlike, CanLevelBePut, CanTexturedBePut, points_part_over, sparse_line_with, texture_part_over, textured_text};
 
@@ -16,7 +16,7 @@ use crate::texture::put_texture;
 use far_io::{Sink, WriteFailed};
 use obj_out::Out;
 use ratio128::{Point2, Point3};
-use sparse_faces::{SparseFaces, SparseValues};
+use sparse_level::{SparseFaces, SparseValues};
 
 /// The texture of sparse levels, from level 0 on. The corners of its faces are texture points, counted from 0 in each level.
 ///

@@ -28,7 +28,7 @@ use Rattle.channel_refine.specs.Evaluated.{control_rows}
 use Rattle.channel_refine.proofs.ValueLemmas.{dens-of-rows}
 use Rattle.sparse_channel.specs.Refined.{AreSparseLevels, IsSparseFault, IsSparseLevel}
 use Rattle.sparse_channel.specs.View.{sparse_rows}
-use Rattle.sparse_faces.specs.declared.values.SparseValues.{SparseValues}
+use Rattle.sparse_level.specs.declared.values.SparseValues.{SparseValues}
 use Rattle.sparse_face_varying.specs.Steps.{ArePredicateSteps}
 use Rattle.sparse_texture_laws.specs.Selection.{IsSelection}
 use Rattle.sparse_texture_laws.proofs.CutLemmas.{mesh-same}

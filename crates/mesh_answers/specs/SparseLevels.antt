@@ -21,7 +21,7 @@ use Rattle.sparse_values.specs.Uniform.{items_at}
 use Rattle.ratio128.specs.declared.point.Point2.{Point2}
 use Rattle.ratio128.specs.declared.point.Point3.{Point3}
 use Rattle.raw_mesh.specs.View.{texture_of as value_of}
-use Rattle.sparse_faces.specs.declared.values.SparseValues.{SparseValues}
+use Rattle.sparse_level.specs.declared.values.SparseValues.{SparseValues}
 use Rattle.far_text.specs.Points.{points_of, CanBeWritten, IsSamePoint, HasDenominators}
 use Rattle.far_text.specs.Texture.{texture_points_of, CanTextureBeWritten, IsSameTexturePoint, HasTextureDenominators}
 use Rattle.far_fault.specs.View.{fault_of}

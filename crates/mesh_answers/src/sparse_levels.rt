@@ -24,7 +24,7 @@ use level_walk::WalkFault;
 use ratio128::{Point2, Point3, Steps};
 use raw_mesh::RawMesh;
 use sparse_face_varying::{refine_sparse_texture, selected_levels};
-use sparse_faces::SparseValues;
+use sparse_level::SparseValues;
 use std::alloc::Global;
 use std::sync::ledger::Ledger;
 

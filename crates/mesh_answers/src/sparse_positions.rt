@@ -19,7 +19,7 @@ use level_topology::FaceFacts;
 use ratio128::{Point3, Steps};
 use raw_mesh::RawMesh;
 use sparse_channel::refine_sparse;
-use sparse_faces::SparseValues;
+use sparse_level::SparseValues;
 use std::alloc::Global;
 use std::sync::ledger::Ledger;
 

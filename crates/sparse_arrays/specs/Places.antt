@@ -2,7 +2,7 @@
 use Rattle.std.specs.Prelude.{ℕ, ◌≡◌, ◌*◌, ◌&&◌, Bool, List, nat_le, length, map}
 use Rattle.std.specs.List.{All, sum_by}
 use Rattle.ratio128.specs.declared.point.Point3.{Point3}
-use Rattle.sparse_faces.specs.declared.values.SparseValues.{SparseValues}
+use Rattle.sparse_level.specs.declared.values.SparseValues.{SparseValues}
 use Rattle.flat_arrays.specs.Places.{IsSameArray}
 use Rattle.flat_arrays.specs.Words.{integer_of, natural_of}
 use Rattle.point_arrays.specs.Points.{CanBePut}

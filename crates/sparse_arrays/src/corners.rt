@@ -6,7 +6,7 @@ ghost use Rattle.sparse_arrays.specs.Flat.{corner_count, corners_in, corners_of,
 
 use flat_arrays::put_items;
 use ratio128::Point3;
-use sparse_faces::{SparseFaces, SparseValues};
+use sparse_level::{SparseFaces, SparseValues};
 
 // Fills an array with the corners of the faces of a level, face by face.
 fn fill_corners(level: &SparseFaces, out: &mut [u32])

@@ -4,7 +4,7 @@ ghost use Rattle.std.specs.Prelude.{◌≡◌, ◌≤◌, length};
 ghost use Rattle.sparse_arrays.specs.Places as spec;
 
 use ratio128::Point3;
-use sparse_faces::SparseValues;
+use sparse_level::SparseValues;
 
 /// The sizes of sparse levels. They give a caller the lengths of the arrays of `SparsePlaces`.
 #[repr(C)]

@@ -2,11 +2,11 @@
 
 ghost use Rattle.std.specs.Prelude.{◌≡◌, ◌≤◌, length};
 ghost use Rattle.std.specs.List.{sum_by};
-ghost use Rattle.sparse_faces.specs.View.{kind_of};
+ghost use Rattle.sparse_level.specs.Faces.{kind_of};
 ghost use Rattle.sparse_arrays.specs.Flat.{face_count, kind_number, kinds_of, level_kinds, level_numbers, level_sizes, numbers_of, sizes_of, with_front};
 
 use ratio128::Point3;
-use sparse_faces::{FaceKind, SparseFaces, SparseValues};
+use sparse_level::{FaceKind, SparseFaces, SparseValues};
 
 // Returns the number of a kind of face.
 fn number_of_kind(kind: FaceKind) -> u8

@@ -4,7 +4,7 @@ ghost use Rattle.std.specs.Prelude.{◌≡◌, ◌≤◌, length, map};
 ghost use Rattle.sparse_arrays.specs.Flat.{face_count, point_count, with_front};
 
 use ratio128::Point3;
-use sparse_faces::SparseValues;
+use sparse_level::SparseValues;
 
 /// Writes the number of points and the number of faces of each level.
 ///

@@ -11,7 +11,7 @@ use crate::levels::put_level_counts;
 use crate::points::put_points;
 use flat_arrays::Wide;
 use ratio128::Point3;
-use sparse_faces::SparseValues;
+use sparse_level::SparseValues;
 
 /// The arrays of a caller for sparse levels, from level 0 on.
 #[repr(C)]

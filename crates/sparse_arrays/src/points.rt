@@ -10,7 +10,7 @@ ghost use Rattle.sparse_arrays.specs.Places.{CanLevelBePut};
 use flat_arrays::Wide;
 use point_arrays::put_exact_points;
 use ratio128::Point3;
-use sparse_faces::SparseValues;
+use sparse_level::SparseValues;
 
 // Fills arrays with the numerators and denominators of the points of a level.
 fn fill_points(

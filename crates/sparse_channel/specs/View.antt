@@ -6,7 +6,7 @@ use Rattle.subdiv_model.specs.Sparse.{FacePredicate}
 use Rattle.primvar_refine.specs.View.{rows_of}
 use Rattle.channel_refine.specs.Evaluated.{control_rows}
 use Rattle.sparse_channel.specs.Refined.{SparseRows, AreSparseLevels, predicate_of}
-use Rattle.sparse_faces.specs.declared.values.SparseValues.{SparseValues}
+use Rattle.sparse_level.specs.declared.values.SparseValues.{SparseValues}
 
 -- a sparse level with values as one with rows
 abbrev pub sparse_rows : {P : Type 0} → (P → List ℤ) → SparseValues P → SparseRows

@@ -15,7 +15,7 @@ use feature_select::{FaceTest, SelectRule};
 use level_topology::FaceFacts;
 use level_walk::WalkFault;
 use ratio128::{Primvar, Steps};
-use sparse_faces::SparseValues;
+use sparse_level::SparseValues;
 use std::alloc::Global;
 use std::sync::ledger::Ledger;
 

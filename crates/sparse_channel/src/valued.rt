@@ -7,7 +7,7 @@ ghost use Rattle.sparse_channel.specs.View.{sparse_rows, all_rows};
 use crate::rows::evaluate_rows;
 use channel_refine::evaluate;
 use ratio128::{Memory, Primvar, Steps};
-use sparse_faces::SparseValues;
+use sparse_level::SparseValues;
 use sparse_walk::KeptLevel;
 use std::alloc::Global;
 use std::sync::ledger::Ledger;

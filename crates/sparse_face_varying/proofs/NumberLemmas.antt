@@ -18,8 +18,8 @@ use Rattle.sparse_laws.proofs.SelectedLemmas.{selected-same}
 use Rattle.sparse_level.specs.View.{SparseTopology, SparseChild, level_of}
 use Rattle.sparse_level.specs.Places.{marked}
 use Rattle.sparse_refiner.specs.Refined.{SparseOf}
-use Rattle.sparse_faces.specs.View.{face_at}
-use Rattle.sparse_faces.specs.declared.values.SparseValues.{SparseValues}
+use Rattle.sparse_level.specs.Faces.{face_at}
+use Rattle.sparse_level.specs.declared.values.SparseValues.{SparseValues}
 use Rattle.sparse_texture_laws.specs.Selection.{is_selected_kind, selected_numbers}
 use Rattle.sparse_texture_laws.proofs.PredicateLemmas.{written-selected}
 use Rattle.sparse_face_varying.specs.Chosen.{AreMarkedBy, AreWritten}

@@ -4,7 +4,7 @@ use Rattle.std.proofs.lemmas.List.{length-map, get_or-map}
 use Rattle.subdiv_model.specs.Channel.{Channel}
 use Rattle.subdiv_model.specs.Sparse.{FacePredicate}
 use Rattle.primvar_refine.specs.Rows.{Row}
-use Rattle.sparse_faces.specs.declared.values.SparseValues.{SparseValues}
+use Rattle.sparse_level.specs.declared.values.SparseValues.{SparseValues}
 use Rattle.sparse_channel.specs.Refined.{SparseRows, AreSparseLevels}
 use Rattle.sparse_channel.specs.View.{sparse_rows}
 use Rattle.sparse_face_varying.specs.Chosen.{AreWritten}

@@ -8,7 +8,7 @@ use Rattle.subdiv_model.specs.Sparse.{FacePredicate}
 use Rattle.subdiv_model.specs.SparseText.{written_level}
 use Rattle.sparse_laws.specs.Selected.{is_selected_in}
 use Rattle.sparse_level.specs.View.{SparseTopology, SparseChild, level_of}
-use Rattle.sparse_faces.specs.declared.values.SparseValues.{SparseValues}
+use Rattle.sparse_level.specs.declared.values.SparseValues.{SparseValues}
 use Rattle.sparse_texture_laws.specs.Selection.{is_chosen, is_chosen_in}
 
 -- a face is chosen by its number; without numbers none is

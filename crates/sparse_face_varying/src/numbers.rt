@@ -8,13 +8,12 @@ ghost use Rattle.subdiv_model.specs.SparseTexture.{selected_to};
 ghost use Rattle.part_laws.specs.Parts.{face_in};
 ghost use Rattle.sparse_level.specs.Places.{marked};
 ghost use Rattle.sparse_refiner.specs.Refined.{SparseOf};
-ghost use Rattle.sparse_faces.specs.View.{kind_of};
+ghost use Rattle.sparse_level.specs.Faces.{kind_of};
 ghost use Rattle.sparse_texture_laws.specs.Selection.{is_selected_kind, selected_numbers};
 ghost use Rattle.sparse_face_varying.specs.Chosen.{AreMarkedBy, AreWritten};
 
 use ratio128::Memory;
-use sparse_faces::{FaceKind, SparseFaces, SparseValues};
-use sparse_level::{SparseLevel, SparseStep};
+use sparse_level::{FaceKind, SparseFaces, SparseLevel, SparseStep, SparseValues};
 use std::alloc::Global;
 
 // Appends a number if `put` is true.

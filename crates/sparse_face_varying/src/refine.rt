@@ -17,7 +17,7 @@ use level_topology::FaceFacts;
 use level_walk::WalkFault;
 use ratio128::{Primvar, Steps};
 use sparse_channel::refine_sparse;
-use sparse_faces::SparseValues;
+use sparse_level::SparseValues;
 use sparse_refiner::{RefineFault, SparseLevel, SparseStep, refine_selected};
 use std::alloc::Global;
 use std::sync::ledger::Ledger;

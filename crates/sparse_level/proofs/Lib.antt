@@ -9,3 +9,7 @@ pub mod SelectLemmas
 pub mod BaseLemmas
 pub mod NextPointLemmas
 pub mod PartOfPlacesLemmas
+pub mod FaceNumberLemmas
+pub mod TableLemmas
+pub mod FaceLemmas
+pub mod CountLemmas

@@ -1,2 +1,4 @@
 pub mod View
 pub mod Places
+pub mod Numbers
+pub mod Faces

@@ -6,8 +6,7 @@ ghost use Rattle.sparse_walk.specs.Kept.{kept_so_far, kept_of, last_kept, kept_t
 use crate::walked::WalkedSparse;
 use level_walk::Visitor;
 use ratio128::Memory;
-use sparse_faces::SparseFaces;
-use sparse_level::SparseLevel;
+use sparse_level::{SparseFaces, SparseLevel};
 use std::alloc::Global;
 use std::marker::Model;
 

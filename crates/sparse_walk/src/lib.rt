@@ -11,6 +11,6 @@ mod walked;
 
 pub use kept::{Keeping, KeptLevel};
 pub use series::sparse_levels;
-pub use sparse_faces::SparseFaces;
+pub use sparse_level::SparseFaces;
 pub use step::Sparse;
 pub use walked::WalkedSparse;

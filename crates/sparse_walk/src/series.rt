@@ -14,7 +14,7 @@ use feature_select::{FaceTest, SelectRule};
 use level_topology::{FaceFacts, Level};
 use level_walk::{Nothing, Reached, WalkFault, walk};
 use ratio128::{Memory, Steps};
-use sparse_faces::SparseFaces;
+use sparse_level::SparseFaces;
 use std::alloc::Global;
 use std::sync::ledger::Ledger;
 

@@ -2,7 +2,7 @@ use Rattle.std.proofs.Common.{◌++◌, ◌∷◌, codes, ap}
 use Rattle.std.specs.List.{flat_map}
 use Rattle.subdiv_model.specs.NumberText.{number_text}
 use Rattle.subdiv_model.specs.SparseText.{kind_text}
-use Rattle.sparse_faces.specs.View.{face_at}
+use Rattle.sparse_level.specs.Faces.{face_at}
 use Rattle.obj_out.proofs.PutsLemmas.{puts-after, puts-cut, puts-same}
 use Rattle.far_text.specs.Lines.{corner_word}
 use Rattle.far_text.proofs.SparseLemmas.{sparse-face-by-words}

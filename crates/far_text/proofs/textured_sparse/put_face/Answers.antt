@@ -3,7 +3,7 @@ use Rattle.std.specs.Prelude.{option_map}
 use Rattle.subdiv_model.specs.NumberText.{number_text}
 use Rattle.subdiv_model.specs.SparseText.{kind_text}
 use Rattle.subdiv_model.specs.SparseTexture.{corner_words}
-use Rattle.sparse_faces.specs.View.{face_at}
+use Rattle.sparse_level.specs.Faces.{face_at}
 use Rattle.obj_out.proofs.PutsLemmas.{puts-after, puts-cut, puts-same}
 use Rattle.far_text.specs.TexturedLines.{spaced}
 use Rattle.far_text.proofs.TexturedLemmas.{textured-face-by-words}

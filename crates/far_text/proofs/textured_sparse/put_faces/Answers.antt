@@ -1,7 +1,7 @@
 use Rattle.std.proofs.Common.{◌<◌, ◌+◌, ap, arith, length, ◌∙◌}
 use Rattle.subdiv_model.specs.SparseTexture.{corners_of_face, textured_sparse_line}
 use Rattle.obj_out.proofs.PutsLemmas.{puts-next, puts-stop, puts-same}
-use Rattle.sparse_faces.specs.View.{face_at}
+use Rattle.sparse_level.specs.Faces.{face_at}
 use Rattle.far_text.specs.TexturedLines.{place_in}
 use Rattle.far_text.proofs.FaceNumberLemmas.{numbers-rise, place-rises}
 use Rattle.far_text.proofs.SparseLemmas.{no_face}

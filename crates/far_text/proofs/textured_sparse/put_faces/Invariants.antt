@@ -1,7 +1,7 @@
 use Rattle.std.proofs.Common.{◌≤◌, ◌<◌, length, take, Ok}
 use Rattle.std.specs.List.{flat_map}
 use Rattle.subdiv_model.specs.SparseTexture.{textured_sparse_line}
-use Rattle.sparse_faces.specs.View.{face_at}
+use Rattle.sparse_level.specs.Faces.{face_at}
 use Rattle.obj_out.specs.Puts.{Puts}
 use Rattle.far_text.specs.TexturedLines.{place_in}
 use Rattle.far_text.proofs.textured_sparse.put_faces.Given as goal

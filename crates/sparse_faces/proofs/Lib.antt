@@ -1,4 +1,0 @@
-pub mod NumberLemmas
-pub mod TableLemmas
-pub mod FaceLemmas
-pub mod CountLemmas
