@@ -4,3 +4,7 @@ pub mod MarkLemmas
 pub mod OriginLemmas
 pub mod LevelLemmas
 pub mod StepLemmas
+pub mod PutLemmas
+pub mod NameLemmas
+pub mod SharpLemmas
+pub mod PartLemmas

@@ -18,7 +18,7 @@ use Rattle.level_topology.proofs.LawLemmas.{faces-all, faces-once}
 use Rattle.child_slots.proofs.SlotLemmas.{over-of}
 use Rattle.part_laws.specs.Parts.{IsWholeAt}
 use Rattle.part_laws.proofs.ChildLemmas.{IsNew, kind}
-use Rattle.part_level.specs.Shapes.{AreMarks, children_at, name_in}
+use Rattle.sparse_refiner.specs.Shapes.{AreMarks, children_at, name_in}
 use Rattle.sparse_laws.specs.NextSparse.{has_all_faces, next_places, next_points}
 use Rattle.sparse_laws.proofs.CornerLemmas.{vertices-old}
 use Rattle.sparse_level.specs.Places.{marked}

@@ -18,7 +18,7 @@ use Rattle.level_topology.specs.declared.child_origin.Origin.{Origin}
 use Rattle.child_slots.specs.HalfTable.{AreAllHalves}
 use Rattle.child_slots.specs.Parts.{IsPart, part}
 use Rattle.child_slots.proofs.SlotLemmas.{over-of}
-use Rattle.part_level.specs.Shapes.{AreMarks, AreNames, children_at, name_in}
+use Rattle.sparse_refiner.specs.Shapes.{AreMarks, AreNames, children_at, name_in}
 use Rattle.sparse_laws.specs.NextSparse.{IsNextSparse, has_all_faces, uniform_child}
 use Rattle.sparse_laws.specs.Selected.{is_selected_in}
 use Rattle.sparse_laws.specs.Laws.{SparseRefinement}

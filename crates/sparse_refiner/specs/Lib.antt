@@ -1,2 +1,4 @@
 pub mod Refined
 pub mod Made
+pub mod Shapes
+pub mod Tables

@@ -7,10 +7,11 @@ ghost use Rattle.child_slots.specs.HalfTable.{HasHalves};
 ghost use Rattle.sparse_laws.specs.NextSparse.{has_all_faces};
 ghost use Rattle.sparse_refiner.specs.Made.{ArePresent, IsNextLevel, points_in, selected_by};
 
+use crate::part::part_level;
 use crate::places::PresentPlaces;
+use crate::shape::PartShape;
 use child_slots::{no_edges, number_edges};
 use level_topology::Level;
-use part_level::{PartShape, part_level};
 use ratio128::{Memory, Steps};
 use sharpness_rules::Sharpness;
 use sparse_level::{NumberedPoints, SparseLevel, mark_complete};

@@ -1,4 +1,0 @@
-pub mod PutLemmas
-pub mod NameLemmas
-pub mod SharpLemmas
-pub mod LevelLemmas
