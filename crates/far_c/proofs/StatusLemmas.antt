@@ -7,7 +7,7 @@ use Rattle.far_model.specs.Answer.{positions_of, table_faults}
 use Rattle.ratio128.specs.declared.point.Point3.{Point3}
 use Rattle.ratio128.specs.declared.valued.Valued.{Valued}
 use Rattle.nearest_float.specs.Binary.{Format}
-use Rattle.nearest_arrays.specs.Nearest.{AreNearest}
+use Rattle.nearest_float.specs.NearestArrays.{AreNearest}
 use Rattle.flat_arrays.specs.declared.wide.Wide.{Wide}
 use Rattle.mesh_arrays.specs.Arrays.{mesh_of_arrays}
 use Rattle.mesh_arrays.specs.declared.arrays.MeshArrays.{MeshArrays}

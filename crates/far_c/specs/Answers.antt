@@ -7,7 +7,7 @@ use Rattle.level_topology.specs.Topology.{Topology}
 use Rattle.flat_arrays.specs.Words.{integer_of, natural_of}
 use Rattle.flat_arrays.specs.declared.wide.Wide.{Wide}
 use Rattle.nearest_float.specs.Binary.{Format}
-use Rattle.nearest_arrays.specs.Nearest.{AreNearest}
+use Rattle.nearest_float.specs.NearestArrays.{AreNearest}
 use Rattle.mesh_arrays.specs.Arrays.{mesh_of_arrays}
 use Rattle.mesh_arrays.specs.declared.arrays.MeshArrays.{MeshArrays}
 use Rattle.fault_record.specs.declared.record.FaultRecord.{FaultRecord}

@@ -1,7 +1,7 @@
 -- The result of the calls for the nearest numbers of fractions.
 use Rattle.std.specs.Prelude.{ℕ, ◌≡◌, List, length, take, MatchOption}
 use Rattle.nearest_float.specs.Binary.{Format}
-use Rattle.nearest_arrays.specs.Nearest.{AreNearest}
+use Rattle.nearest_float.specs.NearestArrays.{AreNearest}
 use Rattle.row_arrays.specs.Fractions.{fraction_fault, fractions_of}
 use Rattle.row_arrays.specs.declared.fraction_fault.FractionFault.{FractionFault}
 use Rattle.row_arrays.specs.declared.fraction_fault.FractionFault.TheVariants.{Short, Denominator, Numerator}

@@ -3,7 +3,7 @@
 ghost use Rattle.std.specs.Prelude.{◌≡◌, ◌*◌, ◌≤◌, length, nat_le, map, take, drop, true, false};
 ghost use Rattle.std.specs.List.{All};
 ghost use Rattle.nearest_float.specs.Binary.{binary32, binary64};
-ghost use Rattle.nearest_arrays.specs.Nearest.{AreNearest};
+ghost use Rattle.nearest_float.specs.NearestArrays.{AreNearest};
 ghost use Rattle.point_arrays.specs.Points.{CanBePut, coordinates};
 ghost use Rattle.far_c.specs.Answers.{AnswersExactPoints, AnswersPoints, AreExactPoints, are_exact_long_enough};
 ghost use Rattle.far_c.specs.Status.{IsKeptUnlessDone, IsKeptUnlessRefused, IsKeptIfRefused};

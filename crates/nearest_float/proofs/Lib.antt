@@ -14,3 +14,4 @@ pub mod SignLemmas
 pub mod ListLemmas
 pub mod LawLemmas
 pub mod BackLemmas
+pub mod ArrayLemmas

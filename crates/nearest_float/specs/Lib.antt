@@ -6,3 +6,4 @@ pub mod Terms
 pub mod Faults
 pub mod Lists
 pub mod FaultText
+pub mod NearestArrays

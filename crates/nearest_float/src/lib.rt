@@ -1,8 +1,14 @@
 //! Converts fractions to the nearest binary64 and binary32 numbers, and such numbers to their exact fractions, in whole numbers only.
 //!
 //! The calls take and return the bits of the numbers. Only `exact_binary64s` takes memory.
+//!
+//! Fills arrays of a caller with the bits of the binary64 or binary32 numbers nearest to fractions.
+//!
+//! No call takes memory, and none returns an error.
 #![tactic(auto)]
 
+pub mod array_laws;
+mod arrays;
 mod exact;
 mod fault;
 pub mod laws;
@@ -11,6 +17,7 @@ mod nearest;
 mod parts;
 mod size;
 
+pub use arrays::{put_binary32, put_binary64};
 pub use exact::{exact_binary32, exact_binary64};
 pub use fault::{FloatFault, ListFault};
 pub use list::exact_binary64s;

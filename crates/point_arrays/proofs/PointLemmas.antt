@@ -4,8 +4,8 @@ use Rattle.std.specs.Int.{w128}
 use Rattle.std.proofs.lemmas.Int.{to_z-of_z, fits_signed_from_abs}
 use Rattle.nearest_float.specs.Binary.{Format}
 use Rattle.nearest_float.specs.Nearest.{IsNearest}
-use Rattle.nearest_arrays.specs.Nearest.{AreNearest}
-use Rattle.nearest_arrays.proofs.NearestLemmas.{AreNearest-put}
+use Rattle.nearest_float.specs.NearestArrays.{AreNearest}
+use Rattle.nearest_float.proofs.ArrayLemmas.{AreNearest-put}
 
 -- a number that is passed
 passed : (f : Format) (n : ℤ) (den one : ℕ) → unsigned_abs n < 2 ^ 127 → IsNearest f (to_z w128 (of_z w128 n)) den one → IsNearest f n den one

@@ -3,10 +3,10 @@
 ghost use Rattle.std.specs.Prelude.{◌≡◌, ◌+◌, ◌*◌, ◌≤◌, ◌++◌, ℕ, ℤ, List, length, take, drop};
 ghost use Rattle.std.specs.List.{All};
 ghost use Rattle.nearest_float.specs.Binary.{binary32, binary64};
-ghost use Rattle.nearest_arrays.specs.Nearest.{AreNearest};
+ghost use Rattle.nearest_float.specs.NearestArrays.{AreNearest};
 ghost use Rattle.point_arrays.specs.Points.{CanBePut, coordinates, coordinates_of};
 
-use nearest_arrays::{put_binary32, put_binary64};
+use nearest_float::{put_binary32, put_binary64};
 use ratio128::{Point3, Valued};
 
 // Writes the doubles nearest to the coordinates of a point at place `at`.

@@ -10,8 +10,8 @@ use Rattle.std.proofs.lemmas.List.{get_or-take, length-take}
 use Rattle.std.proofs.lemmas.List.FromFn.{map-range_with_len_more}
 use Rattle.nearest_float.specs.Binary.{Format}
 use Rattle.nearest_float.specs.Nearest.{IsNearest}
-use Rattle.nearest_arrays.specs.Nearest.{AreNearest}
-use Rattle.nearest_arrays.proofs.NearestLemmas.{AreNearest-put}
+use Rattle.nearest_float.specs.NearestArrays.{AreNearest}
+use Rattle.nearest_float.proofs.ArrayLemmas.{AreNearest-put}
 use Rattle.flat_arrays.specs.Words.{natural_of, integer_of}
 use Rattle.row_arrays.specs.Rows.{wide_at}
 use Rattle.row_arrays.specs.Fractions.{needed, fraction_at, is_bad_denominator, is_bad_numerator, bad_denominator, bad_numerator, fraction_fault}

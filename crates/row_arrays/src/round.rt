@@ -3,13 +3,13 @@
 ghost use Rattle.std.specs.Prelude.{◌≡◌, ◌*◌, ◌/◌, ◌^◌, ◌<◌, ◌≤◌, length, take, drop, MatchResult, None, unsigned_abs};
 ghost use Rattle.flat_arrays.specs.Words.{integer_of, natural_of};
 ghost use Rattle.nearest_float.specs.Binary.{binary32, binary64};
-ghost use Rattle.nearest_arrays.specs.Nearest.{AreNearest};
+ghost use Rattle.nearest_float.specs.NearestArrays.{AreNearest};
 ghost use Rattle.row_arrays.specs.Reports.{Reports};
 ghost use Rattle.row_arrays.specs.Fractions as spec;
 
 use crate::FractionFault;
 use crate::fractions::{FractionArrays, fraction_fault};
-use nearest_arrays::{put_binary32, put_binary64};
+use nearest_float::{put_binary32, put_binary64};
 use ratio128::Frac;
 
 // Returns a number as a fraction. Its denominator is that of its group times the scale.

@@ -1,6 +1,6 @@
 //! Nearest numbers, written into arrays.
 
-use nearest_arrays::{put_binary32, put_binary64};
+use nearest_float::{put_binary32, put_binary64};
 
 #[test]
 fn numbers_stand_behind_those_that_are_there(rt: HostRuntime) {

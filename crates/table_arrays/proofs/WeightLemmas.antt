@@ -10,8 +10,8 @@ use borrow.Rule.Slice.PartMut.{put_mid}
 use Rattle.subdiv_model.specs.Table.{Share, Row, Table, IsRow, IsTable, row_at, entries_of}
 use Rattle.nearest_float.specs.Binary.{Format}
 use Rattle.nearest_float.specs.Nearest.{IsNearest}
-use Rattle.nearest_arrays.specs.Nearest.{AreNearest}
-use Rattle.nearest_arrays.proofs.NearestLemmas.{AreNearest-append, AreNearest-put}
+use Rattle.nearest_float.specs.NearestArrays.{AreNearest}
+use Rattle.nearest_float.proofs.ArrayLemmas.{AreNearest-append, AreNearest-put}
 use Rattle.table_arrays.specs.Flat.{row_fractions, fractions_of}
 use Rattle.flat_arrays.proofs.PartLemmas.{pieces-more, part-written}
 use Rattle.table_arrays.proofs.FlatLemmas.{blank}

@@ -1,7 +1,7 @@
 -- A table in a caller's arrays: the lengths of the arrays, and what they contain.
 use Rattle.std.specs.Prelude.{ℕ, ◌≡◌, ◌+◌, ◌&&◌, Bool, List, nat_le, length, map, take, drop}
 use Rattle.subdiv_model.specs.Table.{Table, entries_of}
-use Rattle.nearest_arrays.specs.Nearest.{AreNearest}
+use Rattle.nearest_float.specs.NearestArrays.{AreNearest}
 use Rattle.flat_arrays.specs.Words.{natural_of}
 use Rattle.table_arrays.specs.Flat.{row_starts, indices_of, numerators_of, denominators_of, fractions_of}
 use Rattle.table_arrays.specs.declared.places.TableCounts.{TableCounts}

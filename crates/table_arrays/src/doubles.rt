@@ -3,11 +3,11 @@
 ghost use Rattle.std.specs.Prelude.{◌≡◌, ◌^◌, ◌<◌, ◌≤◌, pos, length, map, take, drop};
 ghost use Rattle.std.specs.List.{All};
 ghost use Rattle.nearest_float.specs.Binary.{binary64};
-ghost use Rattle.nearest_arrays.specs.Nearest.{AreNearest};
+ghost use Rattle.nearest_float.specs.NearestArrays.{AreNearest};
 ghost use Rattle.stencil_apply.specs.Table.{entries_of, row_at};
 ghost use Rattle.table_arrays.specs.Flat.{fractions_of, row_fractions};
 
-use nearest_arrays::put_binary64;
+use nearest_float::put_binary64;
 use number_width::{Natural, NumberSlice};
 use stencil_apply::StencilTable;
 

@@ -1,6 +1,6 @@
 use Rattle.std.proofs.Common.{◌*◌, take}
 use Rattle.nearest_float.specs.Binary.{binary64}
-use Rattle.nearest_arrays.specs.Nearest.{AreNearest}
+use Rattle.nearest_float.specs.NearestArrays.{AreNearest}
 use Rattle.point_arrays.specs.Points.{coordinates}
 use Rattle.point_arrays.proofs.nearest.fill_points64.Given as goal
 

@@ -1,7 +1,7 @@
 use Rattle.std.proofs.Common.{◌≡◌, length, map, take, drop}
 use Rattle.std.specs.List.{range_with_len}
 use Rattle.nearest_float.specs.Binary.{binary32}
-use Rattle.nearest_arrays.specs.Nearest.{AreNearest}
+use Rattle.nearest_float.specs.NearestArrays.{AreNearest}
 use Rattle.row_arrays.specs.Fractions.{fraction_at}
 use Rattle.row_arrays.proofs.round.put_floats.Given as goal
 

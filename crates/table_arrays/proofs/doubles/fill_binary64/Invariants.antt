@@ -1,6 +1,6 @@
 use Rattle.std.proofs.Common.{◌≡◌, length, map, take, pos}
 use Rattle.nearest_float.specs.Binary.{binary64}
-use Rattle.nearest_arrays.specs.Nearest.{AreNearest}
+use Rattle.nearest_float.specs.NearestArrays.{AreNearest}
 use Rattle.table_arrays.proofs.doubles.fill_binary64.Given as goal
 
 -- the numbers so far

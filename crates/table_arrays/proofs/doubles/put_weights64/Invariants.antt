@@ -1,6 +1,6 @@
 use Rattle.std.proofs.Common.{◌≡◌, length, take, drop}
 use Rattle.nearest_float.specs.Binary.{binary64}
-use Rattle.nearest_arrays.specs.Nearest.{AreNearest}
+use Rattle.nearest_float.specs.NearestArrays.{AreNearest}
 use Rattle.stencil_apply.specs.Table.{entries_of}
 use Rattle.table_arrays.specs.Flat.{fractions_of}
 use Rattle.table_arrays.proofs.doubles.put_weights64.Given as goal

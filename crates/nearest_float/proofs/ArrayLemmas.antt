@@ -3,7 +3,7 @@ use Rattle.std.proofs.Common.{◌≡◌, ℕ, ℤ, ◌+◌, ◌<◌, List, [], �
 use Rattle.std.proofs.lemmas.List.{take_more}
 use Rattle.nearest_float.specs.Binary.{Format}
 use Rattle.nearest_float.specs.Nearest.{IsNearest}
-use Rattle.nearest_arrays.specs.Nearest.{AreNearest}
+use Rattle.nearest_float.specs.NearestArrays.{AreNearest}
 
 pub AreNearest-append : (f : Format) (fractions others : List (ℤ × ℕ)) (bits more : List ℕ) → AreNearest f fractions bits → AreNearest f others more →
     AreNearest f (fractions ++ others) (bits ++ more)

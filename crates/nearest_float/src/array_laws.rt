@@ -2,7 +2,7 @@
 
 ghost use Rattle.std.specs.Prelude.{ℕ, ℤ, List, ◌++◌};
 ghost use Rattle.nearest_float.specs.Binary.{Format};
-ghost use Rattle.nearest_arrays.specs.Nearest.{AreNearest};
+ghost use Rattle.nearest_float.specs.NearestArrays.{AreNearest};
 
 /// Two lists of nearest numbers, joined, are the nearest numbers to the joined lists of fractions.
 pub fn nearest_join()

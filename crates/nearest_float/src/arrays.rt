@@ -4,7 +4,7 @@ ghost use Rattle.std.specs.Prelude.{◌≡◌, ◌+◌, ◌^◌, ◌<◌, length
 ghost use Rattle.nearest_float.specs.Binary.{binary32, binary64};
 ghost use Rattle.nearest_float.specs.Nearest.{IsNearest};
 
-use nearest_float::{nearest_binary32, nearest_binary64};
+use crate::nearest::{nearest_binary32, nearest_binary64};
 
 /// Writes the bits of the binary64 number nearest to `num / den` into the array at place `at`.
 ///
