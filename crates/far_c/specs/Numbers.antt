@@ -3,10 +3,10 @@ use Rattle.std.specs.Prelude.{ℕ, ◌≡◌, ◌<◌, ◌≤◌, ◌⊎◌, Lis
 use Rattle.nearest_float.specs.Binary.{Format}
 use Rattle.flat_arrays.specs.Words.{integer_of}
 use Rattle.flat_arrays.specs.declared.wide.Wide.{Wide}
-use Rattle.exact_arrays.specs.Scale.{AreScaled}
-use Rattle.exact_arrays.specs.ScaleFaults.{IsScaleFault}
-use Rattle.exact_arrays.specs.Grid.{AreRounded, IsRoundFault}
-use Rattle.exact_arrays.specs.declared.fault.NumberFault.{NumberFault}
+use Rattle.row_arrays.specs.Scale.{AreScaled}
+use Rattle.row_arrays.specs.ScaleFaults.{IsScaleFault}
+use Rattle.row_arrays.specs.Grid.{AreRounded, IsRoundFault}
+use Rattle.row_arrays.specs.declared.number_fault.NumberFault.{NumberFault}
 use Rattle.fault_record.specs.Arrays.{row, record_of_bad_number}
 use Rattle.fault_record.specs.declared.record.FaultRecord.{FaultRecord}
 use Rattle.far_c.specs.Status.{IsStatus}

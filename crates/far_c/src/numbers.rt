@@ -7,11 +7,9 @@ ghost use Rattle.fault_record.specs.Arrays.{record_of_bad_number, row};
 ghost use Rattle.far_c.specs.Numbers.{AnswersRounding, AnswersScale};
 ghost use Rattle.far_c.specs.Status.{IsKeptUnlessDone, IsKeptUnlessRefused};
 
-use exact_arrays::{
-    NumberFault, round_binary32s, round_binary64s, scale_binary32s, scale_binary64s,
-};
 use fault_record::{BAD_ARGUMENT, DONE, FaultRecord, TOO_SHORT};
 use flat_arrays::Wide;
+use row_arrays::{NumberFault, round_binary32s, round_binary64s, scale_binary32s, scale_binary64s};
 
 const FINEST_GRID: u32 = 126;
 

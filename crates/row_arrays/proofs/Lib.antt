@@ -2,3 +2,11 @@ pub mod SumLemmas
 pub mod PutLemmas
 pub mod RangeLemmas
 pub mod FractionLemmas
+pub mod PowerLemmas
+pub mod OverLemmas
+pub mod LeastLemmas
+pub mod NumeratorLemmas
+pub mod ShiftLemmas
+pub mod RoundLemmas
+pub mod GridLemmas
+pub mod RoundedLemmas

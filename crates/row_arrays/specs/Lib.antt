@@ -3,3 +3,11 @@ pub mod Rows
 pub mod Fractions
 pub mod Reports
 pub mod FaultText
+pub mod Floats
+pub mod Scale
+pub mod ScaleFaults
+pub mod Nearest
+pub mod Amounts
+pub mod Grid
+pub mod Answers
+pub mod NumberFaultText

@@ -1,10 +1,8 @@
 //! Doubles and floats as numerators over one denominator.
 
-use exact_arrays::{
-    NumberFault, round_binary32s, round_binary64s, scale_binary32s, scale_binary64s,
-};
 use flat_arrays::Wide;
 use nearest_float::FloatFault;
+use row_arrays::{NumberFault, round_binary32s, round_binary64s, scale_binary32s, scale_binary64s};
 use std::test::Fail;
 
 // The contents of a place before a call.
