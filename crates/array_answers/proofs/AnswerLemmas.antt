@@ -23,7 +23,7 @@ use Rattle.mesh_answers.specs.Tracks.{AreRefined}
 use Rattle.mesh_answers.proofs.PointLemmas.{numbers}
 use Rattle.mesh_answers.proofs.PositionLemmas.{point-controls, refined-points}
 use Rattle.far_text.specs.Points.{CanBeWritten}
-use Rattle.point_arrays.specs.Points.{CanBePut}
+use Rattle.level_arrays.specs.Points.{CanBePut}
 use Rattle.mesh_arrays.specs.Arrays.{mesh_of_arrays}
 use Rattle.mesh_arrays.specs.Faults.{IsMeshOf}
 use Rattle.mesh_arrays.specs.declared.arrays.MeshArrays.{MeshArrays}

@@ -14,7 +14,7 @@ use Rattle.subdiv_model.specs.Channel.{Tables, denominators_after}
 use Rattle.level_topology.specs.Topology.{Topology}
 use Rattle.mesh_answers.specs.Refusals.{refusal_by}
 use Rattle.mesh_answers.specs.Tracks.{AreRefined}
-use Rattle.point_arrays.specs.Points.{CanBePut}
+use Rattle.level_arrays.specs.Points.{CanBePut}
 
 -- the arrays are a mesh, and this is its level at the depth with its table
 pub record IsRefinedOf (mesh : MeshArrays) (depth : ℕ) (refined : RefinedArrays) : Type 0 where

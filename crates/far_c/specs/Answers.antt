@@ -16,7 +16,7 @@ use Rattle.table_arrays.specs.declared.places.TableCounts.{TableCounts}
 use Rattle.level_arrays.specs.Places as level
 use Rattle.level_arrays.specs.declared.counts.LevelCounts.{LevelCounts}
 use Rattle.level_arrays.specs.declared.places.LevelPlaces.{LevelPlaces}
-use Rattle.point_arrays.specs.Points.{coordinates, all_numerators, all_denominators}
+use Rattle.level_arrays.specs.Points.{coordinates, all_numerators, all_denominators}
 use Rattle.array_answers.specs.Asked.{rows_asked}
 use Rattle.array_answers.specs.Rows.{AreRowsAsked, IsRequestRefused}
 use Rattle.array_answers.specs.Refused.{IsRefusal}

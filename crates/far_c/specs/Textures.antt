@@ -7,7 +7,7 @@ use Rattle.fault_record.specs.declared.record.FaultRecord.{FaultRecord}
 use Rattle.level_arrays.specs.Places as level
 use Rattle.level_arrays.specs.declared.counts.LevelCounts.{LevelCounts}
 use Rattle.level_arrays.specs.declared.places.LevelPlaces.{LevelPlaces}
-use Rattle.point_arrays.specs.Values.{all_value_numerators}
+use Rattle.level_arrays.specs.Values.{all_value_numerators}
 use Rattle.array_answers.specs.Asked.{texture_asked}
 use Rattle.array_answers.specs.Rows.{IsRequestRefused, IsTextureAsked}
 use Rattle.array_answers.specs.declared.textures.TextureArrays.{TextureArrays}

@@ -4,7 +4,7 @@ ghost use Rattle.std.specs.Prelude.{◌≡◌, ◌*◌, ◌≤◌, length, nat_l
 ghost use Rattle.std.specs.List.{All};
 ghost use Rattle.nearest_float.specs.Binary.{binary32, binary64};
 ghost use Rattle.nearest_float.specs.NearestArrays.{AreNearest};
-ghost use Rattle.point_arrays.specs.Points.{CanBePut, coordinates};
+ghost use Rattle.level_arrays.specs.Points.{CanBePut, coordinates};
 ghost use Rattle.far_c.specs.Answers.{AnswersExactPoints, AnswersPoints, AreExactPoints, are_exact_long_enough};
 ghost use Rattle.far_c.specs.Status.{IsKeptUnlessDone, IsKeptUnlessRefused, IsKeptIfRefused};
 
@@ -12,8 +12,8 @@ use crate::status::written;
 use array_answers::{RefinedPoints, refine_points};
 use fault_record::FaultRecord;
 use flat_arrays::Wide;
+use level_arrays::{put_exact_points, put_points32, put_points64};
 use mesh_arrays::MeshArrays;
-use point_arrays::{put_exact_points, put_points32, put_points64};
 use std::alloc::Global;
 
 // The number of points.

@@ -4,7 +4,7 @@ ghost use Rattle.std.specs.Prelude.{◌≡◌, ◌*◌, length, nat_le, map, tak
 ghost use Rattle.flat_arrays.specs.Places.{IsSameArray};
 ghost use Rattle.flat_arrays.specs.Words.{integer_of};
 ghost use Rattle.level_arrays.specs.Places.{IsRestKept};
-ghost use Rattle.point_arrays.specs.Values.{all_value_numerators};
+ghost use Rattle.level_arrays.specs.Values.{all_value_numerators};
 ghost use Rattle.far_c.specs.Textures.{AnswersTextureLevel, AnswersTextureValues};
 ghost use Rattle.far_c.specs.Status.{IsKeptUnlessDone, IsKeptUnlessRefused, IsKeptIfRefused};
 
@@ -12,9 +12,8 @@ use crate::status::written;
 use array_answers::{TextureArrays, texture_of_arrays};
 use fault_record::FaultRecord;
 use flat_arrays::Wide;
-use level_arrays::{LevelCounts, LevelPlaces, counts_of, put_level};
+use level_arrays::{LevelCounts, LevelPlaces, counts_of, put_exact_values, put_level};
 use mesh_arrays::MeshArrays;
-use point_arrays::put_exact_values;
 use std::alloc::Global;
 
 // The number of points of the cut mesh.

@@ -1,2 +1,4 @@
 pub mod Flat
 pub mod Places
+pub mod Points
+pub mod Values

@@ -2,7 +2,7 @@
 
 use crate::words::{MINUS_THREE, OLD, ONE, ZERO};
 use flat_arrays::Wide;
-use point_arrays::{put_exact_points, put_exact_values, put_points64};
+use level_arrays::{put_exact_points, put_exact_values, put_points64};
 use ratio128::{Point2, Point3, Valued};
 
 // Over 2: one half, -3/2 and 4. Over 6: one sixth, -1/3 and 0.

@@ -9,7 +9,7 @@ use Rattle.subdiv_model.specs.SparseText.{WrittenFace, WrittenLevel}
 use Rattle.ratio128.specs.declared.point.Point3.{Point3}
 use Rattle.ratio128.specs.declared.valued.Valued.{Valued}
 use Rattle.sparse_level.specs.declared.values.SparseValues.{SparseValues}
-use Rattle.point_arrays.specs.Points.{all_numerators, all_denominators, numerators_of as point_numerators}
+use Rattle.level_arrays.specs.Points.{all_numerators, all_denominators, numerators_of as point_numerators}
 use Rattle.sparse_arrays.specs.Flat.{level_corners, corners_in, point_count, face_count, corner_count, value_count, corners_of, numerators_of, denominators_of}
 use Rattle.sparse_arrays.specs.Places.{CanLevelBePut}
 use Rattle.sparse_arrays.proofs.FrontLemmas.{pieces-length}

@@ -4,7 +4,7 @@ use Rattle.std.specs.List.{flat_map, sum_by}
 use Rattle.subdiv_model.specs.SparseText.{FaceKind, HoleFace, OuterFace, SelectedFace, LeafFace, WrittenLevel}
 use Rattle.ratio128.specs.declared.point.Point3.{Point3}
 use Rattle.sparse_level.specs.declared.values.SparseValues.{SparseValues}
-use Rattle.point_arrays.specs.Points.{all_numerators, all_denominators}
+use Rattle.level_arrays.specs.Points.{all_numerators, all_denominators}
 
 -- an array with these items at its front; later items are unchanged
 abbrev pub with_front : {X : Type 0} → List X → List X → List X

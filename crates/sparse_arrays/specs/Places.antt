@@ -5,7 +5,7 @@ use Rattle.ratio128.specs.declared.point.Point3.{Point3}
 use Rattle.sparse_level.specs.declared.values.SparseValues.{SparseValues}
 use Rattle.flat_arrays.specs.Places.{IsSameArray}
 use Rattle.flat_arrays.specs.Words.{integer_of, natural_of}
-use Rattle.point_arrays.specs.Points.{CanBePut}
+use Rattle.level_arrays.specs.Points.{CanBePut}
 use Rattle.sparse_arrays.specs.Flat.{with_front, point_count, face_count, corner_count, kinds_of, numbers_of, sizes_of, corners_of, numerators_of, denominators_of}
 use Rattle.sparse_arrays.specs.declared.counts.SparseCounts.{SparseCounts}
 use Rattle.sparse_arrays.specs.declared.places.SparsePlaces.{SparsePlaces}

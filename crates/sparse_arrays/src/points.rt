@@ -3,12 +3,12 @@
 ghost use Rattle.std.specs.Prelude.{◌≡◌, ◌*◌, ◌≤◌, length, map};
 ghost use Rattle.std.specs.List.{All, sum_by};
 ghost use Rattle.flat_arrays.specs.Words.{integer_of, natural_of};
-ghost use Rattle.point_arrays.specs.Points.{all_denominators, all_numerators};
+ghost use Rattle.level_arrays.specs.Points.{all_denominators, all_numerators};
 ghost use Rattle.sparse_arrays.specs.Flat.{denominators_of, numerators_of, value_count, with_front};
 ghost use Rattle.sparse_arrays.specs.Places.{CanLevelBePut};
 
 use flat_arrays::Wide;
-use point_arrays::put_exact_points;
+use level_arrays::put_exact_points;
 use ratio128::Point3;
 use sparse_level::SparseValues;
 

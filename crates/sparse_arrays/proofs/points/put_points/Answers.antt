@@ -1,7 +1,7 @@
 use Rattle.std.proofs.Common.{rules, ◌+◌, ◌*◌, ◌≤◌, ◌≡◌, length, map, take, get_or, arith, ap, sym, ◌∙◌}
 use Rattle.flat_arrays.specs.Words.{integer_of, natural_of}
 use Rattle.flat_arrays.proofs.PartLemmas.{counts-more, counts-room, part-length}
-use Rattle.point_arrays.specs.Points.{all_numerators, all_denominators}
+use Rattle.level_arrays.specs.Points.{all_numerators, all_denominators}
 use Rattle.sparse_arrays.specs.Flat.{value_count}
 use Rattle.sparse_arrays.proofs.FrontLemmas.{front-all, front-next-view, part-size}
 use Rattle.sparse_arrays.proofs.LevelLemmas.{numerators-length, denominators-length, values-fit}

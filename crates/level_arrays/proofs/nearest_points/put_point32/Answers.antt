@@ -1,7 +1,7 @@
 use Rattle.std.proofs.Common.{◌*◌}
 use Rattle.nearest_float.specs.Binary.{binary32}
-use Rattle.point_arrays.proofs.PointLemmas.{put-three}
-use Rattle.point_arrays.proofs.nearest.put_point32.Goals as goal
+use Rattle.level_arrays.proofs.PointLemmas.{put-three}
+use Rattle.level_arrays.proofs.nearest_points.put_point32.Goals as goal
 
 pub returns-clause-nearest : goal.returns-clause-nearest
 returns-clause-nearest c =

@@ -9,7 +9,7 @@ use Rattle.ratio128.specs.declared.point.Point3.{Point3}
 use Rattle.ratio128.specs.declared.valued.Valued.{Valued}
 use Rattle.primvar_refine.specs.Rows.{Row, AreWithin}
 use Rattle.primvar_refine.specs.View.{row_of, rows_of}
-use Rattle.point_arrays.specs.Points.{CanBePut}
+use Rattle.level_arrays.specs.Points.{CanBePut}
 
 -- the numbers of a point, as `Primvar` has them
 abbrev pub point_numbers : Point3 → List ℤ

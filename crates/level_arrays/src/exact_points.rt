@@ -3,7 +3,7 @@
 ghost use Rattle.std.specs.Prelude.{◌≡◌, ◌+◌, ◌*◌, ◌≤◌, ◌++◌, length, map, take, drop};
 ghost use Rattle.std.specs.List.{All};
 ghost use Rattle.flat_arrays.specs.Words.{integer_of, natural_of};
-ghost use Rattle.point_arrays.specs.Points.{CanBePut, all_denominators, all_numerators, numerators_of};
+ghost use Rattle.level_arrays.specs.Points.{CanBePut, all_denominators, all_numerators, numerators_of};
 
 use flat_arrays::{Wide, put_item, put_items};
 use ratio128::{Point3, Valued};

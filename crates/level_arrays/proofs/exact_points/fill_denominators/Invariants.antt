@@ -1,7 +1,7 @@
 use Rattle.std.proofs.Common.{◌≡◌, map, take}
 use Rattle.flat_arrays.specs.Words.{natural_of}
-use Rattle.point_arrays.specs.Points.{all_denominators}
-use Rattle.point_arrays.proofs.exact.fill_denominators.Given as goal
+use Rattle.level_arrays.specs.Points.{all_denominators}
+use Rattle.level_arrays.proofs.exact_points.fill_denominators.Given as goal
 
 -- the denominators of the points before this one are written
 abbrev pub invariant-loop-place : goal.invariant-loop-place

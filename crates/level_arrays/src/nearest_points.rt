@@ -4,7 +4,7 @@ ghost use Rattle.std.specs.Prelude.{◌≡◌, ◌+◌, ◌*◌, ◌≤◌, ◌+
 ghost use Rattle.std.specs.List.{All};
 ghost use Rattle.nearest_float.specs.Binary.{binary32, binary64};
 ghost use Rattle.nearest_float.specs.NearestArrays.{AreNearest};
-ghost use Rattle.point_arrays.specs.Points.{CanBePut, coordinates, coordinates_of};
+ghost use Rattle.level_arrays.specs.Points.{CanBePut, coordinates, coordinates_of};
 
 use nearest_float::{put_binary32, put_binary64};
 use ratio128::{Point3, Valued};

@@ -1,7 +1,7 @@
 use Rattle.std.proofs.Common.{◌≡◌, ◌*◌, map, take}
 use Rattle.flat_arrays.specs.Words.{integer_of}
-use Rattle.point_arrays.specs.Points.{all_numerators}
-use Rattle.point_arrays.proofs.exact.fill_numerators.Given as goal
+use Rattle.level_arrays.specs.Points.{all_numerators}
+use Rattle.level_arrays.proofs.exact_points.fill_numerators.Given as goal
 
 -- the numerators of the points before this one are written
 abbrev pub invariant-loop-place : goal.invariant-loop-place

@@ -2,7 +2,7 @@
 
 ghost use Rattle.std.specs.Prelude.{◌≡◌, ◌+◌, ◌*◌, ◌≤◌, ◌++◌, length, map, take, drop};
 ghost use Rattle.flat_arrays.specs.Words.{integer_of};
-ghost use Rattle.point_arrays.specs.Values.{all_value_numerators, value_numerators_of};
+ghost use Rattle.level_arrays.specs.Values.{all_value_numerators, value_numerators_of};
 
 use flat_arrays::{Wide, put_items};
 use ratio128::Point2;

@@ -1,8 +1,8 @@
 use Rattle.std.proofs.Common.{◌*◌, take}
 use Rattle.nearest_float.specs.Binary.{binary32}
 use Rattle.nearest_float.specs.NearestArrays.{AreNearest}
-use Rattle.point_arrays.specs.Points.{coordinates}
-use Rattle.point_arrays.proofs.nearest.fill_points32.Given as goal
+use Rattle.level_arrays.specs.Points.{coordinates}
+use Rattle.level_arrays.proofs.nearest_points.fill_points32.Given as goal
 
 -- the numbers nearest to the coordinates of the points before this one are written
 abbrev pub invariant-loop-place : goal.invariant-loop-place

@@ -1,2 +1,0 @@
-pub mod PointLemmas
-pub mod CallerLemmas
