@@ -4,7 +4,7 @@ use crate::cages::{MINUS_ONE, triangle};
 use array_answers::{SparseRequest, sparse_of_arrays};
 use fault_record::FaultRecord;
 use flat_arrays::Wide;
-use sparse_arrays::{SparseCounts, SparsePlaces, counts_of, put_sparse};
+use level_arrays::{SparseCounts, SparsePlaces, put_sparse, sparse_counts_of};
 use std::alloc::Global;
 
 const ZERO: Wide = Wide { low: 0, high: 0 };
@@ -21,7 +21,7 @@ fn put_triangle(
         select: 1,
     };
     let sparse = sparse_of_arrays(alloc, triangle(), &request)?;
-    let counts = counts_of(&sparse.levels);
+    let counts = sparse_counts_of(&sparse.levels);
     Ok((put_sparse(&sparse.levels, sparse.common, places), counts))
 }
 

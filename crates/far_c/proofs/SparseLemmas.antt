@@ -10,10 +10,10 @@ use Rattle.sparse_level.specs.declared.values.SparseValues.{SparseValues}
 use Rattle.mesh_answers.specs.SparseLevels.{written_denominators}
 use Rattle.mesh_arrays.specs.Arrays.{mesh_of_arrays}
 use Rattle.mesh_arrays.specs.declared.arrays.MeshArrays.{MeshArrays}
-use Rattle.sparse_arrays.specs.Flat.{denominators_of, with_front}
-use Rattle.sparse_arrays.specs.Places.{counts_of, are_long_enough, IsWritten}
-use Rattle.sparse_arrays.specs.declared.counts.SparseCounts.{SparseCounts}
-use Rattle.sparse_arrays.specs.declared.places.SparsePlaces.{SparsePlaces}
+use Rattle.level_arrays.specs.SparseFlat.{denominators_of, with_front}
+use Rattle.level_arrays.specs.SparsePlaces.{counts_of, are_long_enough, IsWritten}
+use Rattle.level_arrays.specs.declared.sparse_counts.SparseCounts.{SparseCounts}
+use Rattle.level_arrays.specs.declared.sparse_places.SparsePlaces.{SparsePlaces}
 use Rattle.fault_record.specs.declared.record.FaultRecord.{FaultRecord}
 use Rattle.array_answers.specs.Sparse.{AreSparseAsked, AreSparseIn, IsSparseRefused, sparse_asked}
 use Rattle.array_answers.specs.declared.sparse.SparseArrays.{SparseArrays}

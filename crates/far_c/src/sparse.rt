@@ -1,15 +1,15 @@
 //! The sparse levels of a mesh.
 
 ghost use Rattle.std.specs.Prelude.{◌≡◌};
-ghost use Rattle.sparse_arrays.specs.Places.{AreSamePlaces};
+ghost use Rattle.level_arrays.specs.SparsePlaces.{AreSamePlaces};
 ghost use Rattle.far_c.specs.Sparse.{AnswersSparse};
 ghost use Rattle.far_c.specs.Status.{IsKeptUnlessRefused, IsKeptIfRefused};
 
 use crate::status::written;
 use array_answers::{SparseRequest, sparse_of_arrays};
 use fault_record::FaultRecord;
+use level_arrays::{SparseCounts, SparsePlaces, put_sparse, sparse_counts_of};
 use mesh_arrays::MeshArrays;
-use sparse_arrays::{SparseCounts, SparsePlaces, counts_of, put_sparse};
 use std::alloc::Global;
 
 /// Writes the requested sparse levels of a mesh with their points, and the counts of all levels. The denominator of a point is that of its
@@ -29,7 +29,7 @@ pub extern "C" fn far_sparse(
 {
     match sparse_of_arrays(alloc, mesh, request) {
         Ok(sparse) => {
-            *counts = counts_of(&sparse.levels);
+            *counts = sparse_counts_of(&sparse.levels);
             let done = put_sparse(&sparse.levels, sparse.common, places);
             // The prover proves a named drop once for each type.
             drop(sparse);

@@ -5,6 +5,10 @@
 //! Writes refined points into arrays of a caller: as the nearest doubles or floats, or as exact numerators and denominators.
 //!
 //! The crate also writes the numerators of texture values. No call takes memory, and none returns an error.
+//!
+//! Writes the sparse levels of a mesh into flat arrays that the caller owns.
+//!
+//! No call takes memory or reports an error. `counts_of` returns the lengths that the arrays need.
 #![tactic(auto)]
 
 mod counts;
@@ -13,6 +17,12 @@ mod exact_points;
 mod faces;
 mod nearest_points;
 mod places;
+mod sparse_corners;
+mod sparse_counts;
+mod sparse_faces;
+mod sparse_levels;
+mod sparse_places;
+mod sparse_points;
 mod values;
 
 pub use counts::{LevelCounts, counts_of};
@@ -21,4 +31,6 @@ pub use exact_points::put_exact_points;
 pub use faces::{put_corners, put_face_sizes, put_holes};
 pub use nearest_points::{put_points32, put_points64};
 pub use places::{LevelPlaces, put_level};
+pub use sparse_counts::{SparseCounts, sparse_counts_of};
+pub use sparse_places::{SparsePlaces, put_sparse};
 pub use values::put_exact_values;
