@@ -4,7 +4,7 @@ use Rattle.std.specs.List.{flat_map}
 use Rattle.std.proofs.lemmas.List.{length-set}
 use Rattle.far_io.specs.declared.sink.Sink.{Ghosts}
 use Rattle.far_io.specs.declared.sink.WriteFailed.{WriteFailed}
-use Rattle.point_marks.specs.Tree.{least_mark}
+use Rattle.stencil_session.specs.Tree.{least_mark}
 use Rattle.stencil_apply.specs.Table.{Table}
 use Rattle.stencil_session.specs.Session.{State, without_mark}
 use Rattle.obj_out.specs.Puts.{Puts}

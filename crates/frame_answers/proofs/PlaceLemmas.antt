@@ -6,7 +6,7 @@ use Rattle.std.proofs.lemmas.List.Quantifiers.{position-Some}
 use Rattle.std.proofs.lemmas.List.Sums.{sum_by-cons, fails_before_first}
 use Rattle.subdiv_model.specs.Lists.{places_from, places}
 use Rattle.subdiv_model.specs.Polygons.{is_among}
-use Rattle.point_marks.specs.Tree.{least_mark, mark_count}
+use Rattle.stencil_session.specs.Tree.{least_mark, mark_count}
 use Rattle.frame_answers.specs.Lines.{marked}
 
 -- marks from a test

@@ -16,7 +16,7 @@ use Rattle.stencil_apply.specs.Table.{Row, Table, IsTable, row_at, sum_of_shares
 use Rattle.stencil_factory.specs.Rows.{share_sum}
 use Rattle.stencil_session.specs.Session.{State, row_value}
 use Rattle.far_text.specs.Frames.{frame_line, changed_line}
-use Rattle.point_marks.specs.Tree.{mark_count}
+use Rattle.stencil_session.specs.Tree.{mark_count}
 use Rattle.far_text.proofs.SameTextLemmas.{changed-same}
 use Rattle.mesh_answers.proofs.ColumnLemmas.{scaled}
 use Rattle.frame_answers.specs.Lines.{row_point, row_line, marked, marked_lines, marked_text}

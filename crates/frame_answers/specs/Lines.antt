@@ -5,7 +5,7 @@ use Rattle.std.specs.List.{flat_map}
 use Rattle.subdiv_model.specs.Lists.{places}
 use Rattle.subdiv_model.specs.Value.{Value}
 use Rattle.subdiv_model.specs.Refined.{Point}
-use Rattle.point_marks.specs.Tree.{mark_count}
+use Rattle.stencil_session.specs.Tree.{mark_count}
 use Rattle.stencil_apply.specs.Table.{row_at}
 use Rattle.stencil_session.specs.Session.{State, row_value}
 use Rattle.far_text.specs.Frames.{frame_line, changed_line}

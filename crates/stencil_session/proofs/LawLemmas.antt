@@ -5,8 +5,8 @@ use Rattle.std.proofs.Math.Seq.{set-append_seam, get_or-append_seam}
 use Rattle.std.proofs.lemmas.Bool.{cases_eq, eq-eqb, ne_eqb}
 use Rattle.std.proofs.lemmas.List.{ext_get_or, length-set, length-replicate, get_or-replicate, get_or_append_left, get_or-set_same, get_or-set_other, length-append, append-nil, replicate_more}
 use Rattle.std.proofs.lemmas.List.FromFn.{length-map-range_with_len, get_or-map-range_with_len}
-use Rattle.point_marks.specs.Tree.{least_mark}
-use Rattle.point_marks.proofs.LeastLemmas.{least-none, least-is}
+use Rattle.stencil_session.specs.Tree.{least_mark}
+use Rattle.stencil_session.proofs.LeastLemmas.{least-none, least-is}
 use Rattle.stencil_apply.specs.Table.{Row, Table, row_at, sum_of_row}
 use Rattle.stencil_apply.proofs.ArrayLemmas.{cons_both}
 use Rattle.stencil_apply.proofs.MeanLemmas.{all-first, all-rest}

@@ -7,3 +7,5 @@ pub mod EntryLemmas
 pub mod MoveLemmas
 pub mod SessionLemmas
 pub mod LawLemmas
+pub mod LeastLemmas
+pub mod MarksLemmas

@@ -1,7 +1,7 @@
 -- The terms of the laws of sessions: moves without a fault, and marks that are removed one after another.
 use Rattle.std.specs.Prelude.{ℕ, ◌≡◌, ℤ, Bool, false, nat_eq, List, [], ◌∷◌, length, map, get_or, replicate, Some, None, if◌then◌else◌}
 use Rattle.std.specs.List.{All, filter, list_any, range_with_len}
-use Rattle.point_marks.specs.Tree.{least_mark}
+use Rattle.stencil_session.specs.Tree.{least_mark}
 use Rattle.stencil_apply.specs.Table.{Table, row_at}
 use Rattle.stencil_session.specs.Session.{State, IsState, Move, has_control, move_fault, without_mark}
 

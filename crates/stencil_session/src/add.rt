@@ -9,7 +9,7 @@ ghost use Rattle.stencil_session.specs.Columns.{marked, AreAdded, CanAddColumn};
 ghost use Rattle.stencil_session.specs.Kept.{difference_of};
 
 use crate::columns::Columns;
-use point_marks::Marks;
+use crate::marks::Marks;
 use ratio128::{Point3, Primvar, Steps};
 use std::sync::ledger::Ledger;
 

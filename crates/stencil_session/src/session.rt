@@ -6,14 +6,14 @@ ghost use Rattle.std.specs.Option.{option_map};
 ghost use Rattle.subdiv_model.specs.Channel.{number_bound};
 ghost use Rattle.ratio128.specs.Numbers.{greatest_amount};
 ghost use Rattle.ratio128.specs.declared.point.Point3.{Point3};
-ghost use Rattle.point_marks.specs.Tree.{least_mark, mark_count};
+ghost use Rattle.stencil_session.specs.Tree.{least_mark, mark_count};
 ghost use Rattle.stencil_apply.specs.Table.{row_at, entries_of, greatest_of};
 ghost use Rattle.stencil_session.specs.Session.{IsState, numbers_of, rows_with, after_move, move_fault, after_moves, move_of, moves_made, first_fault, rows_visited, row_value, sum_of_three, without_mark};
 
 use crate::add::{add_column, difference};
 use crate::columns::Columns;
 use crate::fault::{MoveFault, TooGreat, test_move};
-use point_marks::Marks;
+use crate::marks::Marks;
 use ratio128::{Memory, Point3, Primvar, Steps};
 use std::alloc::Global;
 use std::marker::Model;

@@ -1,9 +1,9 @@
 // Marks of numbers: it marks numbers on both sides of 64 and takes the least one.
 
 use crate::expect::expect_same;
-use point_marks::Marks;
 use std::process::Abort;
 use std::test::Fail;
+use stencil_session::Marks;
 
 fn mark_all(rt: &impl Abort, marks: &mut Marks, numbers: &[u32]) {
     for number in numbers {

@@ -7,8 +7,8 @@ use Rattle.std.proofs.lemmas.List.{get_or-drop, get_or-take, length-drop, length
 use Rattle.std.proofs.lemmas.List.Quantifiers.{position-Some}
 use Rattle.std.proofs.lemmas.List.Folds.{sum_by-replicate}
 use Rattle.std.proofs.lemmas.List.Sums.{sum_by-set, count_by-le-length}
-use Rattle.point_marks.specs.Tree.{least_mark, mark_count, IsTree, AreMarks}
-use Rattle.point_marks.proofs.LeastLemmas.{apart, none-marked, least-none, least-is}
+use Rattle.stencil_session.specs.Tree.{least_mark, mark_count, IsTree, AreMarks}
+use Rattle.stencil_session.proofs.LeastLemmas.{apart, none-marked, least-none, least-is}
 
 -- no marks
 unmarked : (n at : ℕ) → get_or (replicate n false) at false ≡ false

@@ -1,6 +1,6 @@
 use Rattle.std.proofs.Common.{◌≡◌, ◌<◌, drop}
-use Rattle.point_marks.specs.Tree.{IsTreeBut}
-use Rattle.point_marks.proofs.tree.mend.Given as goal
+use Rattle.stencil_session.specs.Tree.{IsTreeBut}
+use Rattle.stencil_session.proofs.tree.mend.Given as goal
 
 abbrev pub invariant-loop-at : goal.invariant-loop-at
 invariant-loop-at l = record {

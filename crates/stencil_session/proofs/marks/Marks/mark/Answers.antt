@@ -1,6 +1,6 @@
 use Rattle.std.proofs.Common.{◌≡◌, false, get_or, rules, sym, ◌∙◌}
-use Rattle.point_marks.proofs.MarksLemmas.{view-put, marks-more, room}
-use Rattle.point_marks.proofs.marks.Marks.mark.Goals as goal
+use Rattle.stencil_session.proofs.MarksLemmas.{view-put, marks-more, room}
+use Rattle.stencil_session.proofs.marks.Marks.mark.Goals as goal
 
 pub overflow_add-self : goal.overflow_add-self
 overflow_add-self c =

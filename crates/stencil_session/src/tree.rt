@@ -1,7 +1,7 @@
 //! A binary tree of marks in one list: the root is node 1, and node i has the children 2i and 2i + 1.
 
 ghost use Rattle.std.specs.Prelude.{◌≡◌, ◌+◌, ◌*◌, ◌<◌, ◌||◌, true, false, Some, drop, get_or, set, length, if◌then◌else◌};
-ghost use Rattle.point_marks.specs.Tree.{IsTree, IsTreeBut, least_mark};
+ghost use Rattle.stencil_session.specs.Tree.{IsTree, IsTreeBut, least_mark};
 
 // The left child of a node if that child is marked, and the right child otherwise.
 fn least_child(tree: &Vec<bool>, node: usize) -> usize

@@ -1,6 +1,6 @@
 use Rattle.std.proofs.Common.{◌-◌}
-use Rattle.point_marks.specs.Tree.{IsFirstInRow}
-use Rattle.point_marks.proofs.tree.least_leaf.Given as goal
+use Rattle.stencil_session.specs.Tree.{IsFirstInRow}
+use Rattle.stencil_session.proofs.tree.least_leaf.Given as goal
 
 abbrev pub invariant-loop-node : goal.invariant-loop-node
 invariant-loop-node l = IsFirstInRow l.leaves l.node l.tree.items

@@ -1,5 +1,5 @@
-use Rattle.point_marks.proofs.LeastLemmas.{row-next, row-end}
-use Rattle.point_marks.proofs.tree.least_leaf.Goals as goal
+use Rattle.stencil_session.proofs.LeastLemmas.{row-next, row-end}
+use Rattle.stencil_session.proofs.tree.least_leaf.Goals as goal
 
 pub loop-node-preserved : goal.loop-node-preserved
 loop-node-preserved c =

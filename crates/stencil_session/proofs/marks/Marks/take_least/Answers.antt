@@ -1,6 +1,6 @@
 use Rattle.std.proofs.Common.{rules}
-use Rattle.point_marks.proofs.MarksLemmas.{taken-inside, taken-below, taken-least, taken-none, view-put, marks-less, some}
-use Rattle.point_marks.proofs.marks.Marks.take_least.Goals as goal
+use Rattle.stencil_session.proofs.MarksLemmas.{taken-inside, taken-below, taken-least, taken-none, view-put, marks-less, some}
+use Rattle.stencil_session.proofs.marks.Marks.take_least.Goals as goal
 
 pub returns-then-not-index-clause-least : goal.returns-then-not-index-clause-least
 returns-then-not-index-clause-least c = search (rules, taken-none)

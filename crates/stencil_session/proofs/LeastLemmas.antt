@@ -6,7 +6,7 @@ use Rattle.std.proofs.lemmas.Bool.{cases_eq, cases_lt, lt-ltb, le-ltb}
 use Rattle.std.proofs.lemmas.List.{get_or-drop, length-drop, get_or_past}
 use Rattle.std.proofs.lemmas.List.Sums.{position_or_len_is}
 use Rattle.std.specs.List.{position_or_len}
-use Rattle.point_marks.specs.Tree.{least_mark, IsTree, IsFirstInRow}
+use Rattle.stencil_session.specs.Tree.{least_mark, IsTree, IsFirstInRow}
 
 pub apart : true ≡ false → ⊥
 apart e = cc

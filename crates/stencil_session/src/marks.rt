@@ -1,7 +1,7 @@
 //! Marks of numbers, with the tree that finds the least one.
 
 ghost use Rattle.std.specs.Prelude.{◌≡◌, ◌<◌, true, false, length, get_or, set, replicate, IfOk, IfSome, MatchOption};
-ghost use Rattle.point_marks.specs.Tree.{least_mark, mark_count};
+ghost use Rattle.stencil_session.specs.Tree.{least_mark, mark_count};
 
 use crate::tree::{least_leaf, put_leaf};
 use ratio128::Memory;
@@ -22,7 +22,7 @@ pub struct Marks {
 
 impl Model for Marks {
     ghost use Rattle.std.specs.Prelude.{Bool, List, take, drop};
-    ghost use Rattle.point_marks.specs.Tree.{AreMarks};
+    ghost use Rattle.stencil_session.specs.Tree.{AreMarks};
 
     ghost Value = { List Bool };
 

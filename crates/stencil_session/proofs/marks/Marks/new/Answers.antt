@@ -1,6 +1,6 @@
 use Rattle.std.proofs.Common.{rules}
-use Rattle.point_marks.proofs.MarksLemmas.{view-none, marks-none}
-use Rattle.point_marks.proofs.marks.Marks.new.Goals as goal
+use Rattle.stencil_session.proofs.MarksLemmas.{view-none, marks-none}
+use Rattle.stencil_session.proofs.marks.Marks.new.Goals as goal
 
 pub invariant_of-result : goal.invariant_of-result
 invariant_of-result c =
