@@ -13,9 +13,9 @@ use Rattle.mask_laws.specs.SharpBoundary.{has_sharp_boundary}
 use Rattle.mask_laws.proofs.BoundaryLemmas.{boundary-base}
 use Rattle.level_topology.specs.Topology.{Topology}
 use Rattle.mesh_check.specs.Checked.{IsAccepted}
-use Rattle.level_counts.specs.declared.counts.LevelCounts.{LevelCounts}
-use Rattle.level_counts.specs.Counts.{counts_of}
-use Rattle.level_counts.specs.View.{seen_counts}
+use Rattle.uniform_walk.specs.declared.counts.LevelCounts.{LevelCounts}
+use Rattle.uniform_walk.specs.Counts.{counts_of}
+use Rattle.uniform_walk.specs.CountsView.{seen_counts}
 use Rattle.level_walk.specs.declared.fault.WalkFault.{WalkFault}
 use Rattle.ratio128.specs.StepsTaken.{StepsTaken}
 use Rattle.far_fault.specs.Walk.{walk_fault_of}

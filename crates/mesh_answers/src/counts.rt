@@ -12,13 +12,13 @@ ghost use Rattle.mesh_answers.specs.StepCounts.{later_faces};
 use crate::level::level_within;
 use far_fault::{FarFault, Track, fault_of_walk};
 use far_text::Reply;
-use level_counts::{LevelCounts, count_levels};
 use level_topology::Level;
 use level_walk::WalkFault;
 use ratio128::Steps;
 use raw_mesh::RawMesh;
 use std::alloc::Global;
 use std::sync::ledger::Ledger;
+use uniform_walk::{LevelCounts, count_levels};
 
 // The counts of the levels of a mesh, from its level 0. No level up to the depth has too many faces.
 fn counts_from<L: Ledger>(

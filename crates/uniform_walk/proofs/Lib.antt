@@ -5,3 +5,6 @@ pub mod LevelLemmas
 pub mod FaultLemmas
 pub mod StepLemmas
 pub mod WalkedLemmas
+mod CountLemmas
+mod PointLemmas
+pub mod CountedLevelLemmas

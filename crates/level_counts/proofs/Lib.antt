@@ -1,3 +1,0 @@
-mod CountLemmas
-mod PointLemmas
-pub mod SeriesLemmas
