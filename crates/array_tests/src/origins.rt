@@ -3,8 +3,8 @@
 use crate::cages::triangle;
 use array_answers::origins_of_arrays;
 use fault_record::FaultRecord;
-use level_origins::{OriginCounts, OriginPlaces, counts_of, put_origins};
 use std::alloc::Global;
+use uniform_walk::{OriginCounts, OriginPlaces, origin_counts_of, put_origins};
 
 // Writes the origins of a triangle's level 2. Returns whether it did, and their number.
 fn put_triangle(
@@ -12,7 +12,7 @@ fn put_triangle(
     places: &mut OriginPlaces,
 ) -> Result<(bool, OriginCounts), FaultRecord> {
     let origins = origins_of_arrays(alloc, triangle(), 2)?;
-    Ok((put_origins(&origins, places), counts_of(&origins)))
+    Ok((put_origins(&origins, places), origin_counts_of(&origins)))
 }
 
 // The edges of the triangle come last: the middle of each, then both ends of each half.

@@ -6,10 +6,10 @@ use Rattle.subdiv_model.specs.Fault.{Positions}
 use Rattle.subdiv_model.specs.Channel.{Sharpnesses, channel_faults}
 use Rattle.far_model.specs.Answer.{positions_of}
 use Rattle.level_topology.specs.Topology.{Topology}
-use Rattle.level_origins.specs.Origins.{origins_to}
-use Rattle.level_origins.specs.Child.{AreFew}
-use Rattle.level_origins.specs.View.{seen_origins}
-use Rattle.level_origins.specs.declared.origin.Origins.{Origins}
+use Rattle.uniform_walk.specs.Origins.{origins_to}
+use Rattle.uniform_walk.specs.ChildOrigins.{AreFew}
+use Rattle.uniform_walk.specs.OriginsView.{seen_origins}
+use Rattle.uniform_walk.specs.declared.origin.Origins.{Origins}
 use Rattle.uniform_walk.specs.Levels.{AreMade}
 use Rattle.uniform_walk.proofs.FaultLemmas.{no-fault-made}
 use Rattle.mesh_answers.specs.Levels.{IsLevelWithin}

@@ -8,3 +8,8 @@ pub mod WalkedLemmas
 mod CountLemmas
 mod PointLemmas
 pub mod CountedLevelLemmas
+mod OriginItemLemmas
+mod OriginPartLemmas
+mod OriginLawLemmas
+mod UniformOriginLemmas
+mod OriginSeriesLemmas

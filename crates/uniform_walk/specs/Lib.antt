@@ -3,3 +3,8 @@ pub mod Levels
 pub mod Step
 pub mod Counts
 pub mod CountsView
+pub mod Origins
+pub mod ChildOrigins
+pub mod OriginsView
+pub mod OriginLaws
+pub mod OriginPlaces

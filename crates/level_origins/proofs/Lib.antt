@@ -1,5 +1,0 @@
-mod ItemLemmas
-mod PartLemmas
-mod LawLemmas
-mod UniformLemmas
-mod SeriesLemmas

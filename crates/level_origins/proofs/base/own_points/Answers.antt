@@ -1,8 +1,0 @@
-use Rattle.std.proofs.Common.{refl}
-use Rattle.level_origins.specs.Origins.{OnPoint}
-use Rattle.level_origins.specs.View.{seen_origin}
-use Rattle.level_origins.proofs.ItemLemmas.{pushed}
-use Rattle.level_origins.proofs.base.own_points.Goals as goal
-
-pub loop-v-preserved : goal.loop-v-preserved
-loop-v-preserved c = pushed seen_origin OnPoint c.loop-v.v c.loop-v.points.items c.push.new.self.items _ c.in_ok-push.ensures.items refl c.loop-v.invariant

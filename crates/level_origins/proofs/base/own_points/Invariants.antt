@@ -1,9 +1,0 @@
-use Rattle.std.proofs.Common.{◌≡◌, map}
-use Rattle.std.specs.List.{range_with_len}
-use Rattle.level_origins.specs.Origins.{OnPoint}
-use Rattle.level_origins.specs.View.{seen_origin}
-use Rattle.level_origins.proofs.base.own_points.Given as goal
-
--- the points so far
-abbrev pub invariant-loop-v : goal.invariant-loop-v
-invariant-loop-v l = map seen_origin l.points.items ≡ map OnPoint (range_with_len 0 l.v)
