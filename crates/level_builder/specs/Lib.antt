@@ -1,3 +1,4 @@
 pub mod Hashing
 pub mod NumberedEdges
 pub mod Builder
+pub mod Keys

@@ -2,12 +2,22 @@
 //!
 //! The program makes level 0 with it, and the level 0 of each cut mesh. `point_fans` finishes the level and takes over the tables of faces
 //! and edges without a copy.
+//!
+//! Sides and edges as numbers, and the numbers that occur once, often or at all among sorted numbers.
+//!
+//! A side goes from its first end to its second. An edge is the same in both directions. Each number takes 64 bits, with an end in
+//! each half. [`frequent`] sorts, and [`is_known`] searches by halves. The other calls visit each number once.
+//! [`ratio128::Memory`] is returned where memory runs out.
 #![tactic(auto)]
 
 mod builder;
 mod edges;
 mod hashing;
 mod key;
+mod keys;
 
 pub use builder::LevelBuilder;
 pub use key::MeshKey;
+pub use keys::{
+    each_once, edge_key, edge_keys, frequent, is_again, is_known, side_key, side_keys, unrepeated,
+};

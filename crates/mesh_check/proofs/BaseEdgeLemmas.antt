@@ -8,7 +8,7 @@ use Rattle.number_laws.proofs.ListLemmas.{any-both, all-kept}
 use Rattle.mesh_laws.proofs.EdgeLemmas.{any-first_named, all-named}
 use Rattle.mesh_laws.proofs.BoundaryLemmas.{boundary-sided}
 use Rattle.level_topology.proofs.NumberingLemmas.{faces-alike}
-use Rattle.sorted_keys.specs.Keys.{IsWord, edge_key}
+use Rattle.level_builder.specs.Keys.{IsWord, edge_key}
 use Rattle.mesh_check.specs.Base.{AreEdges}
 
 -- a pair is an edge exactly where its number is known

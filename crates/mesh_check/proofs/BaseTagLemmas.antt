@@ -12,7 +12,7 @@ use Rattle.mesh_laws.proofs.SideLemmas.{same_edge-sym}
 use Rattle.mesh_laws.proofs.EdgeLemmas.{first_named-once}
 use Rattle.point_fans.specs.Built.{Built, built_of}
 use Rattle.level_builder.specs.Builder.{with_sharp_edge, with_sharp_vertex}
-use Rattle.sorted_keys.proofs.RestLemmas.{others, at-first}
+use Rattle.level_builder.proofs.RestLemmas.{others, at-first}
 use Rattle.mesh_check.specs.Base.{with_edge_tag, with_edge_tags, with_vertex_tags, infinite}
 
 -- two functions that agree give the same list

@@ -12,9 +12,9 @@ use Rattle.subdiv_model.specs.MeshFault.{first_mesh_fault}
 use Rattle.number_laws.proofs.CountLemmas.{any-count}
 use Rattle.mesh_laws.proofs.EdgeLemmas.{faces-count}
 use Rattle.mesh_laws.proofs.FaultLemmas.{fault-decides}
-use Rattle.sorted_keys.specs.Keys.{IsWord, AreWords, AreEdgeKeys, edge_key}
-use Rattle.sorted_keys.proofs.KeyLemmas.{edge-key-same, count-keys, filter-agree, count-moved}
-use Rattle.sorted_keys.proofs.SearchLemmas.{sorted-rises}
+use Rattle.level_builder.specs.Keys.{IsWord, AreWords, AreEdgeKeys, edge_key}
+use Rattle.level_builder.proofs.KeyLemmas.{edge-key-same, count-keys, filter-agree, count-moved}
+use Rattle.level_builder.proofs.SearchLemmas.{sorted-rises}
 
 -- after a sort the numbers of edges ascend, and each occurs as often as before
 pub keys-sorted : (sides : List (ℕ × ℕ)) (keys sorted : List ℕ) → AreWords sides → keys ≡ map edge_key sides → IsPermutation keys sorted → IsSorted nat_cmp sorted → AreEdgeKeys sides sorted

@@ -19,7 +19,7 @@ use Rattle.mesh_laws.proofs.SideLemmas.{no-side-back}
 use Rattle.level_topology.proofs.ChildLemmas.{edges-corners}
 use Rattle.level_topology.proofs.FanOrderLemmas.{same-permutation}
 use Rattle.level_builder.specs.NumberedEdges.{low_first}
-use Rattle.sorted_keys.specs.Keys.{IsWord, AreWords, AreEdgeKeys, edge_key, ends_of_key, is_again, each_once}
+use Rattle.level_builder.specs.Keys.{IsWord, AreWords, AreEdgeKeys, edge_key, ends_of_key, is_again, each_once}
 use Rattle.mesh_check.proofs.OnceLemmas.{once-among, once-distinct, named-among, named-distinct, words-named}
 
 -- the numbers of edges, each once, are those of the edges by first appearance in another order

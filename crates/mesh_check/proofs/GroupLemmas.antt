@@ -11,8 +11,8 @@ use Rattle.std.proofs.lemmas.List.Sorted.{searched}
 use Rattle.subdiv_model.specs.Polygons.{is_among, is_distinct}
 use Rattle.mesh_laws.proofs.SideLemmas.{distinct-places}
 use Rattle.level_topology.proofs.FanOrderLemmas.{among-at}
-use Rattle.sorted_keys.specs.Keys.{Rises}
-use Rattle.sorted_keys.proofs.SearchLemmas.{rise-at}
+use Rattle.level_builder.specs.Keys.{Rises}
+use Rattle.level_builder.proofs.SearchLemmas.{rise-at}
 
 -- distinct numbers have each its place
 pub own-place : (xs : List ℕ) (i : ℕ) (x : ℕ) → is_distinct xs ≡ true → i < length xs → get_or xs i 0 ≡ x → position_or_len (nat_eq x) xs ≡ i

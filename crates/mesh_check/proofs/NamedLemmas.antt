@@ -12,14 +12,14 @@ use Rattle.subdiv_model.specs.Polygons.{Polygon, same_side, same_edge, is_among,
 use Rattle.subdiv_model.specs.Edges.{all_sides, first_named, reversed}
 use Rattle.subdiv_model.specs.MeshFault.{is_crowded, is_clashing, crowded_edges, clashing_edges}
 use Rattle.number_laws.proofs.CountLemmas.{any-count}
-use Rattle.sorted_keys.specs.Keys.{IsWord, AreWords, AreEdgeKeys, Rises, edge_key, each_once, is_unmarked}
-use Rattle.sorted_keys.proofs.KeyLemmas.{edge-key-same}
+use Rattle.level_builder.specs.Keys.{IsWord, AreWords, AreEdgeKeys, Rises, edge_key, each_once, is_unmarked}
+use Rattle.level_builder.proofs.KeyLemmas.{edge-key-same}
 use Rattle.mesh_check.proofs.EdgeFaultLemmas.{filter-without, crowded-alike, clashing-alike}
 use Rattle.mesh_check.proofs.GroupLemmas.{place-of, place-searched}
 use Rattle.mesh_check.proofs.MarkLemmas.{no_marks, none-set}
 use Rattle.mesh_check.proofs.OnceLemmas.{once-among, words-named, named-among}
-use Rattle.sorted_keys.proofs.SearchLemmas.{search-known}
-use Rattle.sorted_keys.proofs.RestLemmas.{others, first-others, at-first}
+use Rattle.level_builder.proofs.SearchLemmas.{search-known}
+use Rattle.level_builder.proofs.RestLemmas.{others, first-others, at-first}
 
 -- two filters commute
 filter-swap : (p q : ℕ × ℕ → Bool) (xs : List (ℕ × ℕ)) → filter p (filter q xs) ≡ filter q (filter p xs)

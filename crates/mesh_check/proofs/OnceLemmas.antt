@@ -8,8 +8,8 @@ use Rattle.subdiv_model.specs.Edges.{first_named}
 use Rattle.number_laws.proofs.CountLemmas.{any-count, count-cons, one_if, one-yes}
 use Rattle.mesh_laws.proofs.EdgeLemmas.{first_named-once}
 use Rattle.mesh_laws.proofs.SideLemmas.{same_edge-refl}
-use Rattle.sorted_keys.specs.Keys.{IsWord, AreWords, edge_key, Rises, is_again, each_once}
-use Rattle.sorted_keys.proofs.KeyLemmas.{again-count, count-keys, edge-key-same}
+use Rattle.level_builder.specs.Keys.{IsWord, AreWords, edge_key, Rises, is_again, each_once}
+use Rattle.level_builder.proofs.KeyLemmas.{again-count, count-keys, edge-key-same}
 
 -- a number that comes again is behind
 again-there : (n : ℕ) (xs : List ℕ) → is_again 1 (n ∷ xs) n ≡ true → is_among xs n ≡ true

@@ -9,10 +9,10 @@ use Rattle.std.proofs.lemmas.List.Sums.{prefix_len-le-length}
 use Rattle.subdiv_model.specs.Polygons.{Polygon, is_among}
 use Rattle.subdiv_model.specs.Manifold.{has_one_fan}
 use Rattle.mesh_check.specs.declared.turns.Turn.{Turn}
-use Rattle.sorted_keys.specs.Keys.{Rises}
+use Rattle.level_builder.specs.Keys.{Rises}
 use Rattle.mesh_check.specs.Turns.{turn_key, turns_at}
 use Rattle.mesh_check.specs.Groups.{no_turn, vertices, first_vertex, turns_off, IsGroupOf, AreGroups, IsFirstGroup}
-use Rattle.sorted_keys.proofs.SearchLemmas.{rises-from}
+use Rattle.level_builder.proofs.SearchLemmas.{rises-from}
 
 -- a vertex before all others has no corner among theirs
 pub above-off : (v m : ℕ) (turns : List Turn) → v < m → list_all (nat_le m) (vertices turns) ≡ true → (turns_at v turns ≡ []) × (turns_off v turns ≡ turns)

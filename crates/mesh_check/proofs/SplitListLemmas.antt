@@ -11,10 +11,10 @@ use Rattle.subdiv_model.specs.Polygons.{Polygon, is_among, is_distinct}
 use Rattle.subdiv_model.specs.Manifold.{has_one_fan}
 use Rattle.subdiv_model.specs.MeshFault.{MeshFault, SplitVertex, split_vertices}
 use Rattle.mesh_check.specs.declared.turns.Turn.{Turn}
-use Rattle.sorted_keys.specs.Keys.{Rises, is_again, each_once}
+use Rattle.level_builder.specs.Keys.{Rises, is_again, each_once}
 use Rattle.mesh_check.specs.Turns.{turns_after, AreSortedTurns}
 use Rattle.mesh_check.specs.Groups.{vertices, first_vertex, turns_off, AreGroups, IsFirstGroup}
-use Rattle.sorted_keys.proofs.SearchLemmas.{rise-at}
+use Rattle.level_builder.proofs.SearchLemmas.{rise-at}
 use Rattle.mesh_check.proofs.SplitLemmas.{above-off}
 use Rattle.mesh_check.proofs.OnceLemmas.{once-among, once-distinct, once-rise}
 use Rattle.mesh_check.proofs.VertexLemmas.{split-corner, corner-vertex, moved-vertex, corner-inside, range-rises, range-among}

@@ -10,9 +10,9 @@ use Rattle.subdiv_model.specs.Edges.{all_sides, reversed}
 use Rattle.number_laws.proofs.CountLemmas.{one_if, count-cons, count-append}
 use Rattle.level_topology.proofs.FanOrderLemmas.{last-at}
 use Rattle.mesh_check.specs.declared.turns.Turn.{Turn}
-use Rattle.sorted_keys.specs.Keys.{side_key, Rises, is_again, repeats, has_equal_after, has_equal_neighbours}
+use Rattle.level_builder.specs.Keys.{side_key, Rises, is_again, repeats, has_equal_after, has_equal_neighbours}
 use Rattle.mesh_check.specs.Turns.{turns_from, turns_of, turns_after, turn_key, AreSortedTurns}
-use Rattle.sorted_keys.proofs.KeyLemmas.{repeats-count}
+use Rattle.level_builder.proofs.KeyLemmas.{repeats-count}
 
 -- the side comes to this corner
 abbrev comes : ℕ × ℕ → Turn → Bool

@@ -16,9 +16,9 @@ use Rattle.subdiv_model.specs.MeshFault.{split_vertices}
 use Rattle.mesh_laws.proofs.SideLemmas.{among-place}
 use Rattle.level_topology.proofs.FanOrderLemmas.{among-at}
 use Rattle.mesh_check.specs.declared.turns.Turn.{Turn}
-use Rattle.sorted_keys.specs.Keys.{Rises}
+use Rattle.level_builder.specs.Keys.{Rises}
 use Rattle.mesh_check.specs.Turns.{turns_of, turns_after, AreSortedTurns}
-use Rattle.sorted_keys.proofs.SearchLemmas.{rises-from}
+use Rattle.level_builder.proofs.SearchLemmas.{rises-from}
 use Rattle.mesh_check.proofs.GroupTurnLemmas.{group-of}
 use Rattle.mesh_check.proofs.TurnLemmas.{face-vertices}
 use Rattle.mesh_check.specs.Groups.{vertices, AreGroups}

@@ -11,7 +11,7 @@ use Rattle.subdiv_model.specs.ObjMesh.{ObjMesh}
 use Rattle.raw_mesh.specs.Laws.{IsWithin}
 use Rattle.point_fans.specs.Built.{Built}
 use Rattle.level_builder.specs.Builder.{with_sharp_edge, with_sharp_vertex}
-use Rattle.sorted_keys.specs.Keys.{IsWord, Rises, edge_key}
+use Rattle.level_builder.specs.Keys.{IsWord, Rises, edge_key}
 
 -- a manifold whose counts are within their limits
 pub record IsFit (mesh : ObjMesh) : Type 0 where

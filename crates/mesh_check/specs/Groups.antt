@@ -4,7 +4,7 @@ use Rattle.std.specs.List.{filter}
 use Rattle.subdiv_model.specs.Polygons.{Polygon, is_among}
 use Rattle.subdiv_model.specs.Manifold.{has_one_fan}
 use Rattle.mesh_check.specs.declared.turns.Turn.{Turn}
-use Rattle.sorted_keys.specs.Keys.{Rises}
+use Rattle.level_builder.specs.Keys.{Rises}
 use Rattle.mesh_check.specs.Turns.{turn_key, turns_at}
 use Rattle.mesh_check.specs.Group.{IsGroup}
 

@@ -4,7 +4,7 @@ use Rattle.std.specs.List.{filter}
 use Rattle.std.specs.List.Sorted.{IsPermutation}
 use Rattle.subdiv_model.specs.Polygons.{Polygon}
 use Rattle.mesh_check.specs.declared.turns.Turn.{Turn}
-use Rattle.sorted_keys.specs.Keys.{side_key, Rises}
+use Rattle.level_builder.specs.Keys.{side_key, Rises}
 
 -- the corners of a path in a face, with one corner before the path and `first` after it
 abbrev pub turns_from : ℕ → ℕ → ℕ → Polygon → List Turn

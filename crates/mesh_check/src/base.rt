@@ -10,12 +10,11 @@ ghost use Rattle.level_builder.specs.Builder.{only_points};
 ghost use Rattle.mesh_check.specs.Base.{IsFit, AreEdges, smooth_built, with_edge_tag, with_edge_tags, with_vertex_tags, infinite, tagged_built, all_complete};
 
 use crate::base_corners::add_end_corners;
-use level_builder::{LevelBuilder, MeshKey};
+use level_builder::{LevelBuilder, MeshKey, edge_key, is_known};
 use level_topology::Level;
 use ratio128::{Memory, Steps};
 use raw_mesh::{CornerTag, Crease, RawMesh};
 use sharpness_rules::Sharpness;
-use sorted_keys::{edge_key, is_known};
 use std::alloc::Global;
 use std::sync::ledger::Ledger;
 

@@ -5,12 +5,12 @@ ghost use Rattle.std.specs.List.{filter, list_any, count_by};
 ghost use Rattle.subdiv_model.specs.Polygons.{same_edge, is_among};
 ghost use Rattle.subdiv_model.specs.Edges.{all_sides, is_boundary};
 ghost use Rattle.subdiv_model.specs.MeshFault.{first_mesh_fault};
-ghost use Rattle.sorted_keys.specs.Keys.{IsWord, edge_key, Rises, AreEdgeKeys};
+ghost use Rattle.level_builder.specs.Keys.{IsWord, edge_key, Rises, AreEdgeKeys};
 
 use crate::edges::sides_among;
+use level_builder::{edge_keys, unrepeated};
 use ratio128::Memory;
 use raw_mesh::RawMesh;
-use sorted_keys::{edge_keys, unrepeated};
 use std::alloc::Global;
 
 // Returns the edges of all sides as numbers, ascending. An edge occurs once for each of its sides.

@@ -5,7 +5,7 @@ ghost use Rattle.subdiv_model.specs.Lists.{first_of};
 ghost use Rattle.subdiv_model.specs.MeshFault.{first_mesh_fault};
 ghost use Rattle.subdiv_model.specs.Base.{base_level};
 ghost use Rattle.subdiv_model.specs.Edges.{all_sides};
-ghost use Rattle.sorted_keys.specs.Keys.{AreEdgeKeys};
+ghost use Rattle.level_builder.specs.Keys.{AreEdgeKeys};
 ghost use Rattle.mesh_check.specs.Counts.{size_faults};
 ghost use Rattle.mesh_check.specs.Base.{AreEdges};
 ghost use Rattle.mesh_check.specs.Checked.{IsAccepted, IsRefused};

@@ -4,10 +4,10 @@ ghost use Rattle.std.specs.Prelude.{◌≡◌, [], ◌∷◌, ◌++◌, ◌||◌
 ghost use Rattle.std.specs.List.{count_by, filter, find};
 ghost use Rattle.subdiv_model.specs.Polygons.{same_edge, same_side};
 ghost use Rattle.subdiv_model.specs.Edges.{reversed};
-ghost use Rattle.sorted_keys.specs.Keys.{Rises, is_named};
+ghost use Rattle.level_builder.specs.Keys.{Rises, is_named};
 
+use level_builder::{edge_key, edge_keys, frequent, is_known, side_key, side_keys};
 use ratio128::Memory;
-use sorted_keys::{edge_key, edge_keys, frequent, is_known, side_key, side_keys};
 use std::alloc::Global;
 
 // Returns whether a side is among the known ones in one of its directions. If directions do not count, it returns whether its

@@ -3,7 +3,7 @@
 ghost use Rattle.std.specs.Prelude.{◌≡◌, ◌^◌, ◌<◌, true, nat_eq, length, IfOk};
 ghost use Rattle.std.specs.List.{position_or_len};
 ghost use Rattle.subdiv_model.specs.Polygons.{is_distinct};
-ghost use Rattle.sorted_keys.specs.Keys.{Rises};
+ghost use Rattle.level_builder.specs.Keys.{Rises};
 ghost use Rattle.mesh_check.specs.Group.{DecidesFan, next_places};
 
 use crate::chain::is_one_chain;

@@ -4,13 +4,13 @@ ghost use Rattle.std.specs.Prelude.{◌≡◌, true, nat_eq, length, slice_set, 
 ghost use Rattle.std.specs.List.{filter, position_or_len};
 ghost use Rattle.subdiv_model.specs.Polygons.{is_distinct};
 ghost use Rattle.subdiv_model.specs.Edges.{first_named};
-ghost use Rattle.sorted_keys.specs.Keys.{AreWords, edge_key, Rises, is_unmarked};
+ghost use Rattle.level_builder.specs.Keys.{AreWords, edge_key, Rises, is_unmarked};
 
 use crate::boundary::known_edges;
 use crate::edges::put_if;
 use crate::marks::{mark_at, no_marks};
+use level_builder::{each_once, edge_key};
 use ratio128::Memory;
-use sorted_keys::{each_once, edge_key};
 use std::alloc::Global;
 
 // Returns whether a number is one of these and was not seen before. The call marks its place.

@@ -8,7 +8,7 @@ ghost use Rattle.subdiv_model.specs.Edges.{all_sides};
 ghost use Rattle.subdiv_model.specs.Manifold.{is_simple};
 ghost use Rattle.subdiv_model.specs.MeshFault.{SplitVertex, split_vertices};
 ghost use Rattle.mesh_check.specs.View.{mesh_fault_of};
-ghost use Rattle.sorted_keys.specs.Keys.{Rises};
+ghost use Rattle.level_builder.specs.Keys.{Rises};
 ghost use Rattle.mesh_check.specs.Group.{DecidesFan};
 ghost use Rattle.mesh_check.specs.Turns.{AreSortedTurns};
 ghost use Rattle.mesh_check.specs.Groups.{AreGroups, IsFirstGroup};

@@ -2,12 +2,12 @@
 
 ghost use Rattle.std.specs.Prelude.{◌≡◌, ◌++◌, map, IfOk, OnOk};
 ghost use Rattle.std.specs.List.Sorted.{IsPermutation, IsNonDecreasingBy};
-ghost use Rattle.sorted_keys.specs.Keys.{has_equal_neighbours};
+ghost use Rattle.level_builder.specs.Keys.{has_equal_neighbours};
 ghost use Rattle.mesh_check.specs.Turns.{turns_of, turns_after, turn_key, AreSortedTurns};
 
+use level_builder::side_key;
 use ratio128::Memory;
 use raw_mesh::RawMesh;
-use sorted_keys::side_key;
 use std::alloc::Global;
 
 // A corner of a face with the corners before and after it.

@@ -6,16 +6,16 @@ ghost use Rattle.subdiv_model.specs.Lists.{first_of};
 ghost use Rattle.subdiv_model.specs.Edges.{all_sides, edges_of_point};
 ghost use Rattle.subdiv_model.specs.Base.{base_level};
 ghost use Rattle.subdiv_model.specs.MeshFault.{first_mesh_fault};
-ghost use Rattle.sorted_keys.specs.Keys.{AreEdgeKeys, ends_of_key, each_once};
+ghost use Rattle.level_builder.specs.Keys.{AreEdgeKeys, ends_of_key, each_once};
 ghost use Rattle.mesh_check.specs.Counts.{size_faults, valence_faults, count_named};
 
 use crate::base_corners::count_face;
 use crate::marks::no_marks;
+use level_builder::is_again;
 use level_topology::Counted;
 use ratio128::Memory;
 use ratio128::limits::SIZE_LIMIT;
 use raw_mesh::RawMesh;
-use sorted_keys::is_again;
 use std::alloc::Global;
 
 // Counts an edge at its two ends, unless its number occurs again later.

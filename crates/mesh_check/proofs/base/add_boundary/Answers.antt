@@ -1,7 +1,7 @@
 use Rattle.std.proofs.Common.{sym, ◌∙◌}
 use Rattle.mesh_check.specs.Base.{with_edge_tags, infinite}
 use Rattle.mesh_check.proofs.BaseTagLemmas.{side-put, side-edges}
-use Rattle.sorted_keys.proofs.RestLemmas.{at-none}
+use Rattle.level_builder.proofs.RestLemmas.{at-none}
 use Rattle.mesh_check.proofs.base.add_boundary.Goals as goal
 
 pub loop-rest-preserved : goal.loop-rest-preserved

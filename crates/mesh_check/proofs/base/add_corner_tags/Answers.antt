@@ -5,7 +5,7 @@ use Rattle.raw_mesh.specs.declared.tags.CornerTag.{CornerTag}
 use Rattle.raw_mesh.specs.View.{corner_tag_of}
 use Rattle.point_fans.specs.Built.{Built}
 use Rattle.mesh_check.specs.Base.{with_vertex_tags}
-use Rattle.sorted_keys.proofs.RestLemmas.{at-item, at-none, others}
+use Rattle.level_builder.proofs.RestLemmas.{at-item, at-none, others}
 use Rattle.mesh_check.proofs.base.add_corner_tags.Goals as goal
 
 pub loop-rest-preserved : goal.loop-rest-preserved

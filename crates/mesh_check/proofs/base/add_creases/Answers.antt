@@ -2,7 +2,7 @@ use Rattle.std.proofs.Common.{map, ap, sym, ◌∙◌}
 use Rattle.raw_mesh.specs.View.{crease_of}
 use Rattle.mesh_check.specs.Base.{with_edge_tags}
 use Rattle.mesh_check.proofs.BaseTagLemmas.{tag-polygons}
-use Rattle.sorted_keys.proofs.RestLemmas.{at-item, at-none, others}
+use Rattle.level_builder.proofs.RestLemmas.{at-item, at-none, others}
 use Rattle.mesh_check.proofs.base.add_creases.Goals as goal
 
 pub loop-rest-preserved : goal.loop-rest-preserved

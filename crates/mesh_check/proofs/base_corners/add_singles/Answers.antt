@@ -2,7 +2,7 @@ use Rattle.std.proofs.Common.{arith, nat_eq, sym, ◌∙◌}
 use Rattle.subdiv_model.specs.Lists.{places_from}
 use Rattle.mesh_check.specs.Base.{with_vertex_tags, infinite}
 use Rattle.mesh_check.proofs.BaseTagLemmas.{single-put, single-points}
-use Rattle.sorted_keys.proofs.RestLemmas.{at-none, others-length}
+use Rattle.level_builder.proofs.RestLemmas.{at-none, others-length}
 use Rattle.mesh_check.proofs.base_corners.add_singles.Goals as goal
 
 pub loop-rest-preserved : goal.loop-rest-preserved

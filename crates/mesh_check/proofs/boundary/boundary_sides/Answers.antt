@@ -1,6 +1,6 @@
 use Rattle.std.proofs.Common.{◌∙◌, ap, false}
 use Rattle.std.specs.List.{filter}
-use Rattle.sorted_keys.specs.Keys.{is_named}
+use Rattle.level_builder.specs.Keys.{is_named}
 use Rattle.mesh_check.proofs.BoundaryLemmas.{boundary-found}
 use Rattle.mesh_check.proofs.boundary.boundary_sides.Goals as goal
 

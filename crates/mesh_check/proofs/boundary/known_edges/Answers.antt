@@ -1,5 +1,5 @@
 use Rattle.mesh_check.proofs.BoundaryLemmas.{keys-sorted, edges-known}
-use Rattle.sorted_keys.proofs.SearchLemmas.{sorted-rises}
+use Rattle.level_builder.proofs.SearchLemmas.{sorted-rises}
 use Rattle.mesh_check.proofs.boundary.known_edges.Goals as goal
 
 pub returns-clause-rises : goal.returns-clause-rises

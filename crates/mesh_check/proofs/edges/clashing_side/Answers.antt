@@ -1,7 +1,7 @@
 use Rattle.std.proofs.Common.{◌∙◌, ap, true}
 use Rattle.std.specs.List.{find}
-use Rattle.sorted_keys.specs.Keys.{is_named}
-use Rattle.sorted_keys.proofs.SearchLemmas.{clashing-found}
+use Rattle.level_builder.specs.Keys.{is_named}
+use Rattle.level_builder.proofs.SearchLemmas.{clashing-found}
 use Rattle.mesh_check.proofs.edges.clashing_side.Goals as goal
 
 pub returns : goal.returns

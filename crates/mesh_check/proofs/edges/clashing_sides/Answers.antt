@@ -1,7 +1,7 @@
 use Rattle.std.proofs.Common.{◌∙◌, ap, true}
 use Rattle.std.specs.List.{filter}
-use Rattle.sorted_keys.specs.Keys.{is_named}
-use Rattle.sorted_keys.proofs.SearchLemmas.{clashing-kept}
+use Rattle.level_builder.specs.Keys.{is_named}
+use Rattle.level_builder.proofs.SearchLemmas.{clashing-kept}
 use Rattle.mesh_check.proofs.edges.clashing_sides.Goals as goal
 
 pub returns : goal.returns

@@ -1,6 +1,6 @@
 use Rattle.std.proofs.Common.{◌≡◌, length}
 use Rattle.std.specs.List.{find}
-use Rattle.sorted_keys.specs.Keys.{is_named}
+use Rattle.level_builder.specs.Keys.{is_named}
 use Rattle.mesh_check.proofs.edges.find_side.Given as goal
 
 abbrev pub invariant-loop-rest : goal.invariant-loop-rest

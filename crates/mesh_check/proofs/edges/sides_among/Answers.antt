@@ -1,7 +1,7 @@
 use Rattle.std.proofs.Common.{refl}
 use Rattle.std.specs.List.{filter}
-use Rattle.sorted_keys.specs.Keys.{is_named}
-use Rattle.sorted_keys.proofs.RestLemmas.{kept-put, all-put}
+use Rattle.level_builder.specs.Keys.{is_named}
+use Rattle.level_builder.proofs.RestLemmas.{kept-put, all-put}
 use Rattle.mesh_check.proofs.edges.sides_among.Goals as goal
 
 pub loop-rest-preserved : goal.loop-rest-preserved

@@ -1,6 +1,6 @@
 use Rattle.std.proofs.Common.{◌≡◌, ◌++◌, length}
 use Rattle.std.specs.List.{filter}
-use Rattle.sorted_keys.specs.Keys.{is_named}
+use Rattle.level_builder.specs.Keys.{is_named}
 use Rattle.mesh_check.proofs.edges.sides_among.Given as goal
 
 -- the sides found so far and those of the rest are all

@@ -3,7 +3,7 @@ use Rattle.std.specs.List.{list_any}
 use Rattle.std.proofs.lemmas.List.{length-set}
 use Rattle.subdiv_model.specs.Edges.{has_end}
 use Rattle.mesh_check.proofs.MarkLemmas.{none-set, as-many, marked-next, either, or-none}
-use Rattle.sorted_keys.proofs.RestLemmas.{at-first, at-none, others}
+use Rattle.level_builder.proofs.RestLemmas.{at-first, at-none, others}
 use Rattle.mesh_check.proofs.holes.end_marks.Goals as goal
 
 pub loop-rest-init : goal.loop-rest-init

@@ -2,7 +2,7 @@ use Rattle.std.proofs.Common.{nat_eq, ◌||◌, get_or, length, arith, refl, ap,
 use Rattle.std.proofs.lemmas.List.{length-set}
 use Rattle.subdiv_model.specs.Polygons.{is_among}
 use Rattle.mesh_check.proofs.MarkLemmas.{none-set, as-many, marked-next, or-none}
-use Rattle.sorted_keys.proofs.RestLemmas.{at-first, at-none, others}
+use Rattle.level_builder.proofs.RestLemmas.{at-first, at-none, others}
 use Rattle.mesh_check.proofs.marks.marks_of.Goals as goal
 
 pub loop-rest-init : goal.loop-rest-init

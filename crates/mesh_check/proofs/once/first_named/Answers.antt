@@ -2,7 +2,7 @@ use Rattle.std.proofs.Common.{sym, subst, ap, ◌∙◌}
 use Rattle.std.specs.List.{filter}
 use Rattle.subdiv_model.specs.Polygons.{is_distinct}
 use Rattle.subdiv_model.specs.Edges.{first_named}
-use Rattle.sorted_keys.specs.Keys.{Rises, edge_key, each_once, is_unmarked}
+use Rattle.level_builder.specs.Keys.{Rises, edge_key, each_once, is_unmarked}
 use Rattle.mesh_check.proofs.OnceLemmas.{once-rise, once-distinct}
 use Rattle.mesh_check.proofs.NamedLemmas.{named-start}
 use Rattle.mesh_check.proofs.once.first_named.Goals as goal

@@ -1,7 +1,7 @@
 use Rattle.std.proofs.Common.{◌∙◌, ap, length, nat_eq, slice_set}
 use Rattle.std.specs.List.{position_or_len}
 use Rattle.std.proofs.lemmas.List.{length-set}
-use Rattle.sorted_keys.specs.Keys.{is_unmarked}
+use Rattle.level_builder.specs.Keys.{is_unmarked}
 use Rattle.mesh_check.proofs.NamedLemmas.{named-put, named-end, words-behind}
 use Rattle.mesh_check.proofs.once.new_sides.Goals as goal
 

@@ -1,7 +1,7 @@
 use Rattle.std.proofs.Common.{◌≡◌, ◌++◌, length}
 use Rattle.std.specs.List.{filter}
 use Rattle.subdiv_model.specs.Edges.{first_named}
-use Rattle.sorted_keys.specs.Keys.{AreWords, edge_key, is_unmarked}
+use Rattle.level_builder.specs.Keys.{AreWords, edge_key, is_unmarked}
 use Rattle.mesh_check.proofs.once.new_sides.Given as goal
 
 -- the sides found so far, and those of the rest by the present marks, are all

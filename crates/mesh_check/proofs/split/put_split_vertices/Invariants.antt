@@ -3,7 +3,7 @@ use Rattle.std.specs.List.{filter}
 use Rattle.subdiv_model.specs.Manifold.{has_one_fan}
 use Rattle.subdiv_model.specs.MeshFault.{SplitVertex, split_vertices}
 use Rattle.mesh_check.specs.View.{mesh_fault_of}
-use Rattle.sorted_keys.specs.Keys.{each_once}
+use Rattle.level_builder.specs.Keys.{each_once}
 use Rattle.mesh_check.specs.Groups.{vertices, AreGroups}
 use Rattle.mesh_check.proofs.split.put_split_vertices.Given as goal
 

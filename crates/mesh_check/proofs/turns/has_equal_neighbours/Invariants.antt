@@ -1,5 +1,5 @@
 use Rattle.std.proofs.Common.{◌≡◌, map, length}
-use Rattle.sorted_keys.specs.Keys.{has_equal_after, has_equal_neighbours}
+use Rattle.level_builder.specs.Keys.{has_equal_after, has_equal_neighbours}
 use Rattle.mesh_check.specs.Turns.{turn_key}
 use Rattle.mesh_check.proofs.turns.has_equal_neighbours.Given as goal
 

@@ -1,6 +1,6 @@
 use Rattle.std.proofs.Common.{◌≡◌, ℕ, ◌+◌, ◌*◌, ◌<◌, ◌≤◌, nat_eq, length, get_or}
 use Rattle.std.specs.List.{All, count_by, sum_by}
-use Rattle.sorted_keys.specs.Keys.{ends_of_key, each_once}
+use Rattle.level_builder.specs.Keys.{ends_of_key, each_once}
 use Rattle.mesh_check.proofs.valence.edge_counts.Given as goal
 
 -- the counts so far and those of the rest are all

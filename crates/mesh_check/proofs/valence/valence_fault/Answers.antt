@@ -1,6 +1,6 @@
 use Rattle.std.proofs.Common.{◌∙◌, ap, sym, length, get_or, arith, subst, List, ℕ, ◌<◌}
 use Rattle.std.specs.List.{All}
-use Rattle.sorted_keys.specs.Keys.{ends_of_key}
+use Rattle.level_builder.specs.Keys.{ends_of_key}
 use Rattle.mesh_check.proofs.BoundaryLemmas.{faultless-simple}
 use Rattle.mesh_check.proofs.CountLemmas.{point-count}
 use Rattle.mesh_check.proofs.EndLemmas.{keys-inside, once-few, ends-counted}

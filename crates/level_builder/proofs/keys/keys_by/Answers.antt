@@ -1,7 +1,7 @@
 use Rattle.std.proofs.Common.{refl, map}
-use Rattle.sorted_keys.specs.Keys.{key_by}
-use Rattle.sorted_keys.proofs.RestLemmas.{map-put, all-put, words-put, words-end}
-use Rattle.sorted_keys.proofs.keys.keys_by.Goals as goal
+use Rattle.level_builder.specs.Keys.{key_by}
+use Rattle.level_builder.proofs.RestLemmas.{map-put, all-put, words-put, words-end}
+use Rattle.level_builder.proofs.keys.keys_by.Goals as goal
 
 pub loop-rest-preserved : goal.loop-rest-preserved
 loop-rest-preserved c = record {

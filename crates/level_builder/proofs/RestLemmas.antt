@@ -2,7 +2,7 @@
 use Rattle.std.proofs.Common.{◌≡◌, ℕ, suc, ◌+◌, ◌-◌, ◌<◌, ◌≤◌, Bool, true, false, List, [], ◌∷◌, ◌++◌, length, map, get_or, take, drop, append-nil, append_assoc, arith, refl, ap, sym, subst, ◌∙◌, if◌then◌else◌}
 use Rattle.std.specs.List.{filter}
 use Rattle.std.proofs.lemmas.List.{take_all, length-take, length-drop}
-use Rattle.sorted_keys.specs.Keys.{IsWord, AreWords}
+use Rattle.level_builder.specs.Keys.{IsWord, AreWords}
 
 -- all but the first
 abbrev pub others : {X : Type 0} → List X → List X

@@ -1,8 +1,8 @@
 use Rattle.std.proofs.Common.{◌∙◌, ap, sym, subst, false}
 use Rattle.subdiv_model.specs.Polygons.{is_among}
-use Rattle.sorted_keys.specs.Keys.{Rises}
-use Rattle.sorted_keys.proofs.UnrepeatedLemmas.{unrepeated-end, unrepeated-rise, unrepeated-count}
-use Rattle.sorted_keys.proofs.keys.unrepeated.Goals as goal
+use Rattle.level_builder.specs.Keys.{Rises}
+use Rattle.level_builder.proofs.UnrepeatedLemmas.{unrepeated-end, unrepeated-rise, unrepeated-count}
+use Rattle.level_builder.proofs.keys.unrepeated.Goals as goal
 
 pub returns-clause-rises : goal.returns-clause-rises
 returns-clause-rises c = subst Rises (sym (unrepeated-end c.loop-rest.found.items c.loop-rest.rest.now c.args.keys.now c.loop-rest.again c.in_default.len_below c.loop-rest.invariant)) (unrepeated-rise false c.args.keys.now c.requires)

@@ -3,7 +3,7 @@
 ghost use Rattle.std.specs.Prelude.{◌≡◌, ℕ, nat_eq, nat_lt, ◌&&◌, [], ◌∷◌, ◌++◌, map, IfOk, OnOk, if◌then◌else◌};
 ghost use Rattle.std.specs.List.{count_by};
 ghost use Rattle.subdiv_model.specs.Polygons.{is_among};
-ghost use Rattle.sorted_keys.specs.Keys.{IsWord, AreWords, side_key, edge_key, key_by, Rises, is_again, repeats, each_once};
+ghost use Rattle.level_builder.specs.Keys.{IsWord, AreWords, side_key, edge_key, key_by, Rises, is_again, repeats, each_once};
 
 use ratio128::Memory;
 use std::alloc::Global;

@@ -1,6 +1,6 @@
 use Rattle.std.proofs.Common.{◌≡◌, ◌++◌, map, length}
-use Rattle.sorted_keys.specs.Keys.{AreWords, key_by}
-use Rattle.sorted_keys.proofs.keys.keys_by.Given as goal
+use Rattle.level_builder.specs.Keys.{AreWords, key_by}
+use Rattle.level_builder.proofs.keys.keys_by.Given as goal
 
 -- the numbers that are there, and those of the rest, are all
 abbrev pub invariant-loop-rest : goal.invariant-loop-rest

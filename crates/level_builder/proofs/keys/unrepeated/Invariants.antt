@@ -1,6 +1,6 @@
 use Rattle.std.proofs.Common.{◌≡◌, ◌++◌, false, length}
-use Rattle.sorted_keys.specs.Keys.{unrepeated_after}
-use Rattle.sorted_keys.proofs.keys.unrepeated.Given as goal
+use Rattle.level_builder.specs.Keys.{unrepeated_after}
+use Rattle.level_builder.proofs.keys.unrepeated.Given as goal
 
 -- the numbers found so far and those of the rest are all
 abbrev pub invariant-loop-rest : goal.invariant-loop-rest

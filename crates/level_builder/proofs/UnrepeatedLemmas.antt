@@ -5,8 +5,8 @@ use Rattle.std.proofs.lemmas.Bool.Decides.{nat_tests}
 use Rattle.std.proofs.lemmas.Bool.{and_parts, and_from, eqb-true}
 use Rattle.subdiv_model.specs.Polygons.{is_among}
 use Rattle.number_laws.proofs.CountLemmas.{count-cons, one_if}
-use Rattle.sorted_keys.specs.Keys.{Rises, is_again, unrepeated_after}
-use Rattle.sorted_keys.proofs.KeyLemmas.{again-count}
+use Rattle.level_builder.specs.Keys.{Rises, is_again, unrepeated_after}
+use Rattle.level_builder.proofs.KeyLemmas.{again-count}
 
 -- a number that may be kept before others
 below-kept : (keep : Bool) (n x : ℕ) (xs : List ℕ) → nat_le n x ≡ true → list_all (nat_le n) xs ≡ true → list_all (nat_le n) (if keep then x ∷ xs else xs) ≡ true

@@ -9,7 +9,7 @@ use Rattle.subdiv_model.specs.Polygons.{same_side, same_edge, is_among}
 use Rattle.number_laws.proofs.CountLemmas.{count-cons, one_if}
 use Rattle.level_builder.specs.NumberedEdges.{low_first}
 use Rattle.level_builder.proofs.EdgeNumberLemmas.{low-same}
-use Rattle.sorted_keys.specs.Keys.{IsWord, AreWords, side_key, edge_key, Rises, is_again, repeats}
+use Rattle.level_builder.specs.Keys.{IsWord, AreWords, side_key, edge_key, Rises, is_again, repeats}
 
 -- a number below all is below the kept ones
 below-repeats : (gap n : ℕ) (xs : List ℕ) → list_all (nat_le n) xs ≡ true → list_all (nat_le n) (repeats gap xs) ≡ true

@@ -12,8 +12,8 @@ use Rattle.std.proofs.lemmas.List.Sorted.{searched, IsNonDecreasingBy-from_sort}
 use Rattle.subdiv_model.specs.Polygons.{same_side, same_edge, is_among}
 use Rattle.subdiv_model.specs.Edges.{reversed}
 use Rattle.mesh_laws.proofs.SideLemmas.{among-place}
-use Rattle.sorted_keys.specs.Keys.{IsWord, AreWords, side_key, edge_key, Rises, repeats, is_named}
-use Rattle.sorted_keys.proofs.KeyLemmas.{side-key-same, edge-key-same, count-keys, find-agree, filter-agree, repeats-count, count-moved}
+use Rattle.level_builder.specs.Keys.{IsWord, AreWords, side_key, edge_key, Rises, repeats, is_named}
+use Rattle.level_builder.proofs.KeyLemmas.{side-key-same, edge-key-same, count-keys, find-agree, filter-agree, repeats-count, count-moved}
 
 -- numbers that ascend do so between any two places
 pub rise-at : (xs : List ℕ) → Rises xs → (i j : ℕ) → i ≤ j → j < length xs → get_or xs i 0 ≤ get_or xs j 0

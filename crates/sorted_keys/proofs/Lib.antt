@@ -1,4 +1,0 @@
-pub mod KeyLemmas
-pub mod UnrepeatedLemmas
-pub mod RestLemmas
-pub mod SearchLemmas
