@@ -27,7 +27,7 @@ use level_topology::{FaceFacts, Level};
 use patch_map::{Leaf, PatchMap};
 use ratio128::{Memory, Steps};
 use raw_mesh::RawMesh;
-use sparse_map::map_sparse;
+use sparse_walk::map_sparse;
 use std::alloc::Global;
 use std::sync::ledger::Ledger;
 

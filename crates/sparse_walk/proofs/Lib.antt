@@ -7,3 +7,5 @@ pub mod ReachedLemmas
 pub mod KeptLemmas
 pub mod SeriesLemmas
 pub mod StartLemmas
+pub mod MarkLemmas
+pub mod GrowingLemmas

@@ -4,3 +4,4 @@ pub mod Step
 pub mod Kept
 pub mod Levels
 pub mod Faults
+pub mod Grown

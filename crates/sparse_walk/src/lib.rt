@@ -2,14 +2,20 @@
 //!
 //! `Sparse` is the step. `sparse_levels` returns all sparse levels to a depth in the form in which the program writes them.
 //! Its specifications connect the faults of a walk with the first fault in the definitions.
+//!
+//! Makes the map of the sparse levels up to a depth, for a rule that selects faces. The map finds the leaf that contains a place;
+//! `patch_map` describes it.
 #![tactic(auto)]
 
+mod growing_map;
 mod kept;
+mod map;
 mod series;
 mod step;
 mod walked;
 
 pub use kept::{Keeping, KeptLevel};
+pub use map::map_sparse;
 pub use series::sparse_levels;
 pub use sparse_level::SparseFaces;
 pub use step::Sparse;

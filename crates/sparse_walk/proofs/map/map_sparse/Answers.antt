@@ -1,8 +1,8 @@
 use Rattle.level_walk.specs.Walk.{at}
 use Rattle.level_walk.proofs.WalkLemmas.{handed-on}
 use Rattle.sparse_walk.proofs.StartLemmas.{each-complete, ready-base}
-use Rattle.sparse_map.proofs.GrowingLemmas.{all-mapped, all-steps, at-begin, no-fault, stopped-levels}
-use Rattle.sparse_map.proofs.series.map_sparse.Goals as goal
+use Rattle.sparse_walk.proofs.GrowingLemmas.{all-mapped, all-steps, at-begin, no-fault, stopped-levels}
+use Rattle.sparse_walk.proofs.map.map_sparse.Goals as goal
 
 pub base-requires : goal.base-requires
 base-requires g c = each-complete c.args.base c.requires.base

@@ -30,8 +30,8 @@ use Rattle.sparse_walk.proofs.StartLemmas.{reached-start}
 use Rattle.sparse_walk.proofs.SeriesLemmas.{sum-more, sum-within}
 use Rattle.sparse_walk.proofs.ReachedLemmas as levels
 use Rattle.sparse_walk.proofs.ReachedLemmas.{topology_of}
-use Rattle.sparse_map.specs.Grown.{with_level, IsWithLevel}
-use Rattle.sparse_map.proofs.MarkLemmas.{marks-are}
+use Rattle.sparse_walk.specs.Grown.{with_level, IsWithLevel}
+use Rattle.sparse_walk.proofs.MarkLemmas.{marks-are}
 
 plus-one : (k : ℕ) → k + 1 ≡ suc k
 plus-one k = omega arith

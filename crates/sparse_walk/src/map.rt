@@ -9,13 +9,14 @@ ghost use Rattle.sparse_walk.specs.Base.{IsSparseBase};
 ghost use Rattle.sparse_walk.specs.Levels.{AreSparseSteps};
 ghost use Rattle.sparse_walk.specs.Faults.{IsSparseFault, HasNoSparseFault};
 
-use crate::growing::Growing;
+use crate::growing_map::Growing;
+use crate::step::Sparse;
+use crate::walked::WalkedSparse;
 use feature_select::{FaceTest, SelectRule};
 use level_topology::{FaceFacts, Level};
 use level_walk::{Nothing, Reached, WalkFault, walk};
 use patch_map::PatchMap;
 use ratio128::Steps;
-use sparse_walk::{Sparse, WalkedSparse};
 use std::alloc::Global;
 use std::sync::ledger::Ledger;
 

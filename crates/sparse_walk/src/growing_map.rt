@@ -2,13 +2,13 @@
 
 ghost use Rattle.std.specs.Prelude.{◌≡◌, IfOk};
 ghost use Rattle.patch_map.specs.Map.{map_of_base};
-ghost use Rattle.sparse_map.specs.Grown.{IsWithLevel};
+ghost use Rattle.sparse_walk.specs.Grown.{IsWithLevel};
 
+use crate::walked::WalkedSparse;
 use level_walk::Visitor;
 use patch_map::PatchMap;
 use ratio128::Memory;
 use sparse_level::SparseLevel;
-use sparse_walk::WalkedSparse;
 use std::alloc::Global;
 use std::marker::Model;
 
@@ -61,7 +61,7 @@ impl Growing {
 }
 
 impl<C: Drop> Visitor<WalkedSparse, C> for Growing {
-    ghost use Rattle.sparse_map.specs.Grown.{IsWithLevel};
+    ghost use Rattle.sparse_walk.specs.Grown.{IsWithLevel};
 
     ghost Takes = { λ before walked carried after. IsWithLevel before walked after };
 
