@@ -4,8 +4,9 @@ use crate::cages::{ONE, cube};
 use fault_record::{BAD_ARRAYS, FaultRecord};
 use flat_arrays::Wide;
 use std::alloc::Global;
-use stored_arrays::{ExactRows, check_stored, read_stored, table_of_rows, write_stored};
-use table_arrays::{ExactPlaces, put_exact_table};
+use table_arrays::{
+    ExactPlaces, ExactRows, check_stored, put_exact_table, read_stored, table_of_rows, write_stored,
+};
 
 const ZERO: Wide = Wide { low: 0, high: 0 };
 

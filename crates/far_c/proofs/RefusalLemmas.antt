@@ -12,10 +12,10 @@ use Rattle.array_answers.specs.Asked.{Rows}
 use Rattle.array_answers.specs.Refused.{AreNoMesh, IsRefusedBy, IsRefusal, record_of_arrays, bad_depth}
 use Rattle.array_answers.specs.Rows as rows
 use Rattle.array_answers.specs.Sparse.{IsSparseRefused}
-use Rattle.stored_arrays.specs.Texts.{IsRefusedFor}
-use Rattle.stored_arrays.specs.Rows as stored
-use Rattle.stored_arrays.specs.Checked.{IsNotOwn}
-use Rattle.stored_arrays.specs.declared.rows.ExactRows.{ExactRows}
+use Rattle.table_arrays.specs.Texts.{IsRefusedFor}
+use Rattle.table_arrays.specs.Rows as stored
+use Rattle.table_arrays.specs.Checked.{IsNotOwn}
+use Rattle.table_arrays.specs.declared.exact_rows.ExactRows.{ExactRows}
 
 -- whatever is written, it is not written on such a status
 pub none-kept : (status : ℕ) → 2 ≤ status → (old new : FaultRecord) → status < 2 → new ≡ old

@@ -6,8 +6,8 @@ use Rattle.subdiv_model.specs.Table.{Table}
 use Rattle.subdiv_model.specs.TableText.{text_of_table}
 use Rattle.memory_streams.specs.Text.{IsStored, count_of}
 use Rattle.fault_record.specs.declared.record.FaultRecord.{FaultRecord}
-use Rattle.stored_arrays.specs.Rows.{IsTableOf}
-use Rattle.stored_arrays.specs.declared.rows.ExactRows.{ExactRows}
+use Rattle.table_arrays.specs.Rows.{IsTableOf}
+use Rattle.table_arrays.specs.declared.exact_rows.ExactRows.{ExactRows}
 use Rattle.far_c.specs.Stored.{AnswersWrite, IsCut, IsWritten}
 
 -- a text fits, or it is longer

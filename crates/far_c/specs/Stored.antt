@@ -9,10 +9,10 @@ use Rattle.table_file.specs.Read.{TableRead}
 use Rattle.table_arrays.specs.Places as table
 use Rattle.table_arrays.specs.declared.places.TableCounts.{TableCounts}
 use Rattle.table_arrays.specs.declared.places.ExactPlaces.{ExactPlaces}
-use Rattle.stored_arrays.specs.Texts.{IsReadOf, IsRefusedFor, read_refusal}
-use Rattle.stored_arrays.specs.Rows.{AreRowsRefused, IsTableOf}
-use Rattle.stored_arrays.specs.Checked.{IsNotOwn, IsOwnText}
-use Rattle.stored_arrays.specs.declared.rows.ExactRows.{ExactRows}
+use Rattle.table_arrays.specs.Texts.{IsReadOf, IsRefusedFor, read_refusal}
+use Rattle.table_arrays.specs.Rows.{AreRowsRefused, IsTableOf}
+use Rattle.table_arrays.specs.Checked.{IsNotOwn, IsOwnText}
+use Rattle.table_arrays.specs.declared.exact_rows.ExactRows.{ExactRows}
 use Rattle.far_c.specs.Status.{IsStatus}
 
 -- the text begins with the text of a table with these counts, which has this length, and `Holds` is true of the table

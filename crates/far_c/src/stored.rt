@@ -10,8 +10,10 @@ use crate::status;
 use fault_record::{DONE, FaultRecord};
 use mesh_arrays::MeshArrays;
 use std::alloc::Global;
-use stored_arrays::{ExactRows, check_stored, read_stored, table_of_rows, write_stored};
-use table_arrays::{ExactPlaces, TableCounts, counts_of, put_exact_table};
+use table_arrays::{
+    ExactPlaces, ExactRows, TableCounts, check_stored, counts_of, put_exact_table, read_stored,
+    table_of_rows, write_stored,
+};
 
 /// Writes the table whose text these bytes begin with, its counts, and the length of its text in bytes. If an array is too short, it
 /// writes only the counts and the length. Places behind the items keep their contents.

@@ -1,5 +1,5 @@
 use Rattle.std.proofs.Common.{rules}
-use Rattle.stored_arrays.specs.Texts.{read_refusal}
+use Rattle.table_arrays.specs.Texts.{read_refusal}
 use Rattle.far_c.proofs.RefusalLemmas.{none-kept, read-status}
 use Rattle.far_c.proofs.stored.far_table_read.Goals as goal
 

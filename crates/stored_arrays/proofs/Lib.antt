@@ -1,4 +1,0 @@
-mod EntryLemmas
-mod BuiltLemmas
-mod CheckLemmas
-mod OwnLemmas

@@ -1,5 +1,0 @@
-pub mod Texts
-pub mod Rows
-pub mod Entries
-pub mod Built
-pub mod Checked
