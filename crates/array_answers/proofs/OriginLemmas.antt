@@ -3,7 +3,7 @@ use Rattle.std.proofs.Common.{ℕ, ◌≤◌, inr, subst}
 use Rattle.subdiv_model.specs.Fault.{Fault}
 use Rattle.subdiv_model.specs.ObjMesh.{ObjMesh}
 use Rattle.far_model.specs.Command.{Levels}
-use Rattle.uniform_walk.specs.declared.origin.Origins.{Origins}
+use Rattle.level_walk.specs.declared.origin.Origins.{Origins}
 use Rattle.mesh_answers.specs.Origins.{AreOriginsOf}
 use Rattle.mesh_answers.specs.Refusals.{IsFound, refusal_of_mesh}
 use Rattle.mesh_arrays.specs.Faults.{IsMeshOf}

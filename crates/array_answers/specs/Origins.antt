@@ -2,7 +2,7 @@
 use Rattle.std.specs.Prelude.{ℕ, ◌≤◌, Result, MatchResult}
 use Rattle.far_model.specs.Command.{Levels}
 use Rattle.far_model.specs.Answer.{command_faults}
-use Rattle.uniform_walk.specs.declared.origin.Origins.{Origins}
+use Rattle.level_walk.specs.declared.origin.Origins.{Origins}
 use Rattle.mesh_answers.specs.Origins.{AreOriginsOf}
 use Rattle.mesh_arrays.specs.Arrays.{mesh_of_arrays}
 use Rattle.mesh_arrays.specs.Faults.{IsMeshOf}

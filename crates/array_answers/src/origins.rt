@@ -5,13 +5,13 @@ ghost use Rattle.array_answers.specs.Origins.{AreArrayOrigins};
 
 use crate::refused::{bad_depth, record_of_arrays};
 use fault_record::{FaultRecord, record_of};
+use level_walk::Origins;
 use mesh_answers::origins;
 use mesh_arrays::{MeshArrays, mesh_of_arrays};
 use ratio128::Steps;
 use std::alloc::Global;
 use std::marker::Brand;
 use std::sync::ledger::{Blank, Ledger};
-use uniform_walk::Origins;
 
 // The origins of a level of a mesh in arrays, with a new counter of steps.
 fn origins_counted<L: Ledger>(

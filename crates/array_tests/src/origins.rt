@@ -3,8 +3,8 @@
 use crate::cages::triangle;
 use array_answers::origins_of_arrays;
 use fault_record::FaultRecord;
+use level_walk::{OriginCounts, OriginPlaces, origin_counts_of, put_origins};
 use std::alloc::Global;
-use uniform_walk::{OriginCounts, OriginPlaces, origin_counts_of, put_origins};
 
 // Writes the origins of a triangle's level 2. Returns whether it did, and their number.
 fn put_triangle(

@@ -16,15 +16,15 @@ use Rattle.ratio128.specs.Numbers.{greatest_amount}
 use Rattle.level_topology.specs.Topology.{Topology, IsTopology}
 use Rattle.level_topology.specs.Child.{ChildTopology}
 use Rattle.uniform_refiner.specs.Refined.{IsRefined}
-use Rattle.uniform_walk.proofs.LevelLemmas as series
+use Rattle.level_walk.proofs.UniformLevelLemmas as series
 use Rattle.primvar_refine.specs.Rows.{Row, row_at, dens_of, value_at, StandFor, AreWithin, greatest_of}
 use Rattle.channel_refine.specs.Base.{IsBase}
 use Rattle.channel_refine.specs.Refined.{AreControls, IsRefinedTo, column_of, terms_to}
 use Rattle.channel_refine.specs.Step.{AreValues, AreCarried}
 use Rattle.channel_refine.proofs.FaultLemmas.{HasNoFault, no-faults}
 use Rattle.channel_refine.proofs.FirstLemmas as first
-use Rattle.uniform_walk.proofs.OriginLemmas.{count-masks, range-append}
-use Rattle.uniform_walk.proofs.MaskLemmas.{masks-are}
+use Rattle.level_walk.proofs.OriginLemmas.{count-masks, range-append}
+use Rattle.level_walk.proofs.UniformMaskLemmas.{masks-are}
 use Rattle.channel_refine.proofs.DenominatorLemmas.{IsSound, all-positive, each-below}
 use Rattle.channel_refine.proofs.UniformLemmas.{AreNextNumbers, next-numbers}
 use Rattle.channel_refine.proofs.ValueLemmas.{from-dens, kept, alike-own, times}

@@ -15,9 +15,9 @@ use Rattle.mask_laws.proofs.BoundaryLemmas.{sharp-levels}
 use Rattle.level_topology.specs.Topology.{Topology, IsTopology}
 use Rattle.level_topology.specs.Child.{ChildTopology}
 use Rattle.uniform_refiner.specs.Refined.{IsRefined}
-use Rattle.uniform_walk.proofs.LevelLemmas as series
-use Rattle.uniform_walk.proofs.MaskLemmas.{masks-are}
-use Rattle.uniform_walk.proofs.OriginLemmas.{count-masks}
+use Rattle.level_walk.proofs.UniformLevelLemmas as series
+use Rattle.level_walk.proofs.UniformMaskLemmas.{masks-are}
+use Rattle.level_walk.proofs.OriginLemmas.{count-masks}
 use Rattle.child_masks.specs.Masks.{masks_from}
 use Rattle.stencil_apply.specs.Table.{Table, greatest_of}
 use Rattle.stencil_factory.specs.Rows.{supports_of, dens_of, row_values, AreSameValues}

@@ -5,7 +5,7 @@ use Rattle.std.specs.List.{AllByRecursion}
 use Rattle.subdiv_model.specs.Lists.{first_of}
 use Rattle.subdiv_model.specs.Fault.{Fault, TooLarge, Entries, Overflow, Track, ChaikinOverflow, TransitionOverflow, DenominatorOverflow, ValueOverflow}
 use Rattle.subdiv_model.specs.Channel.{TrackLevels, Asked, Sharpnesses, Values, Tables, fault_where, has_chaikin_overflow, has_transition_overflow, has_denominator_overflow, has_many_entries, has_value_overflow, level_faults, track_faults}
-use Rattle.uniform_walk.proofs.FaultLemmas.{none-of-levels, first-of-levels}
+use Rattle.level_walk.proofs.UniformFaultLemmas.{none-of-levels, first-of-levels}
 
 -- tests, each with the fault that it reports
 abbrev pub held_faults : List (Bool × Fault) → List Fault

@@ -14,10 +14,10 @@ use Rattle.level_walk.specs.declared.fault.Cause.{Cause}
 use Rattle.level_walk.specs.declared.fault.Cause.TheVariants as cause
 use Rattle.level_walk.specs.declared.fault.OverflowKind.TheVariants as kind
 use Rattle.uniform_refiner.specs.Refined.{IsRefined}
-use Rattle.uniform_walk.specs.Faults.{faces_next, Reaches, IsCauseAt, IsLevelFault}
-use Rattle.uniform_walk.specs.Step.{IsLevelCause}
-use Rattle.uniform_walk.proofs.FaultLemmas.{fault-next, first-next, memory-next, refused-first}
-use Rattle.uniform_walk.proofs.LevelLemmas.{IsReached}
+use Rattle.level_walk.specs.UniformFaults.{faces_next, Reaches, IsCauseAt, IsLevelFault}
+use Rattle.level_walk.specs.UniformStep.{IsLevelCause}
+use Rattle.level_walk.proofs.UniformFaultLemmas.{fault-next, first-next, memory-next, refused-first}
+use Rattle.level_walk.proofs.UniformLevelLemmas.{IsReached}
 use Rattle.primvar_refine.specs.Rows.{greatest_of}
 use Rattle.channel_refine.specs.Step.{IsCarryCause}
 use Rattle.channel_refine.proofs.FaultLemmas.{AsksValues, HasNoFault, has_entry_fault, no-faults, transition-first, denominator-first, entries-first, value-first}

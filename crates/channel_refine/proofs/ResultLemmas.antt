@@ -1,7 +1,7 @@
 -- Results that come from others.
 use Rattle.std.proofs.Common.{◌≡◌, ℕ, ◌+◌, ◌≤◌, Result, Ok, Err, IsErr, IsOkAnd, OnOk, MatchResult, sym, subst}
 use Rattle.subdiv_model.specs.Channel.{Channel, Asked}
-use Rattle.uniform_walk.specs.Levels.{faces_to}
+use Rattle.level_walk.specs.UniformLevels.{faces_to}
 use Rattle.channel_refine.specs.Refined.{path_steps, AreRefineSteps}
 
 -- a result made from a value, or the fault unchanged

@@ -11,9 +11,9 @@ use Rattle.level_topology.specs.Child.{FromVertex, ChildTopology}
 use Rattle.uniform_refiner.specs.Refined.{IsRefined}
 use Rattle.primvar_refine.specs.Rows.{greatest_of}
 use Rattle.child_masks.specs.Masks.{masks_from, has_origin, IsFirstTransition, HasNoTransition}
-use Rattle.uniform_walk.proofs.OriginLemmas.{has-vertex}
-use Rattle.uniform_walk.proofs.MaskLemmas.{origins-are, vertex-of, dens-are}
-use Rattle.uniform_walk.proofs.FaultLemmas.{any-none, any-from-0}
+use Rattle.level_walk.proofs.OriginLemmas.{has-vertex}
+use Rattle.level_walk.proofs.UniformMaskLemmas.{origins-are, vertex-of, dens-are}
+use Rattle.level_walk.proofs.UniformFaultLemmas.{any-none, any-from-0}
 
 -- no number of the next level passes its bound; these numbers give its common denominators
 pub record AreNextNumbers (most : ℕ) (level : Level) (scheme : Scheme) (dens next : List ℕ) : Type 0 where

@@ -12,11 +12,11 @@ use Rattle.level_walk.specs.declared.reached.Reached.{Reached}
 use Rattle.level_walk.specs.Round.{IsNext, IsCause}
 use Rattle.level_walk.specs.Walk.{Place, IsWalked, IsStopped}
 use Rattle.uniform_refiner.specs.Refined.{IsRefined}
-use Rattle.uniform_walk.specs.Faults.{IsLevelFault}
-use Rattle.uniform_walk.specs.Levels.{faces_to}
-use Rattle.uniform_walk.specs.Step.{IsMade, IsRefused}
-use Rattle.uniform_walk.proofs.LevelLemmas as series
-use Rattle.uniform_walk.proofs.MaskLemmas.{dens-are, terms-are}
+use Rattle.level_walk.specs.UniformFaults.{IsLevelFault}
+use Rattle.level_walk.specs.UniformLevels.{faces_to}
+use Rattle.level_walk.specs.UniformStep.{IsMade, IsRefused}
+use Rattle.level_walk.proofs.UniformLevelLemmas as series
+use Rattle.level_walk.proofs.UniformMaskLemmas.{dens-are, terms-are}
 use Rattle.primvar_refine.specs.Rows.{Row, dens_of}
 use Rattle.child_masks.specs.Masks.{step_terms}
 use Rattle.channel_refine.specs.Refined.{terms_to}

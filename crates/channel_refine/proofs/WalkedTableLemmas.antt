@@ -10,11 +10,11 @@ use Rattle.level_walk.specs.declared.fault.WalkFault.{WalkFault}
 use Rattle.level_walk.specs.declared.reached.Reached.{Reached}
 use Rattle.level_walk.specs.Round.{IsNext, IsCause}
 use Rattle.level_walk.specs.Walk.{Place, IsWalked, IsStopped}
-use Rattle.uniform_walk.specs.Faults.{IsLevelFault}
-use Rattle.uniform_walk.specs.Levels.{faces_to}
-use Rattle.uniform_walk.specs.Step.{IsMade, IsRefused}
-use Rattle.uniform_walk.proofs.LevelLemmas as series
-use Rattle.uniform_walk.proofs.MaskLemmas.{dens-are}
+use Rattle.level_walk.specs.UniformFaults.{IsLevelFault}
+use Rattle.level_walk.specs.UniformLevels.{faces_to}
+use Rattle.level_walk.specs.UniformStep.{IsMade, IsRefused}
+use Rattle.level_walk.proofs.UniformLevelLemmas as series
+use Rattle.level_walk.proofs.UniformMaskLemmas.{dens-are}
 use Rattle.stencil_apply.specs.Table.{Table}
 use Rattle.stencil_factory.specs.Rows.{dens_of}
 use Rattle.stencil_factory.specs.Composed.{entries_from}

@@ -12,8 +12,8 @@ use Rattle.subdiv_model.specs.Channel.{Channel, Asked, Sharpnesses, Values, Tabl
 use Rattle.level_topology.specs.Topology.{Topology}
 use Rattle.primvar_refine.specs.Rows.{Row, row_at, dens_of, StandFor, AreWithin}
 use Rattle.level_walk.specs.declared.fault.WalkFault.{WalkFault}
-use Rattle.uniform_walk.specs.Faults.{IsChannelFault}
-use Rattle.uniform_walk.specs.Levels.{faces_to}
+use Rattle.level_walk.specs.UniformFaults.{IsChannelFault}
+use Rattle.level_walk.specs.UniformLevels.{faces_to}
 
 -- the numbers of a column
 abbrev pub column_of : ℕ → List Row → List ℤ

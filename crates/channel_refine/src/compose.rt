@@ -2,21 +2,20 @@
 
 ghost use Rattle.std.specs.Prelude.{◌≤◌, MatchResult};
 ghost use Rattle.subdiv_model.specs.Channel.{Tables};
-ghost use Rattle.uniform_walk.specs.Faults.{IsChannelFault};
-ghost use Rattle.uniform_walk.specs.Levels.{AreLevelSteps};
+ghost use Rattle.level_walk.specs.UniformFaults.{IsChannelFault};
+ghost use Rattle.level_walk.specs.UniformLevels.{AreLevelSteps};
 ghost use Rattle.channel_refine.specs.Composed.{IsComposedTo};
 ghost use Rattle.channel_refine.specs.View.{composed_of};
 
 use crate::base::BaseChannel;
 use crate::table::ByTable;
 use level_topology::Level;
-use level_walk::{Dropped, Reached, WalkFault, walk};
+use level_walk::{Dropped, Reached, Uniform, WalkFault, walk};
 use ratio128::Steps;
 use std::alloc::Global;
 use std::sync::ledger::Ledger;
 use stencil_apply::StencilTable;
 use stencil_factory::identity;
-use uniform_walk::Uniform;
 
 /// A level and the table of its points over the points of level 0.
 #[derive(Drop)]

@@ -9,13 +9,12 @@ ghost use Rattle.channel_refine.specs.View.{refined_of};
 use crate::base::BaseChannel;
 use crate::values::ByValues;
 use level_topology::Level;
-use level_walk::{Dropped, Reached, WalkFault, walk};
+use level_walk::{Dropped, Reached, Uniform, WalkFault, walk};
 use primvar_refine::Valued;
 use ratio128::{Primvar, Steps};
 use std::alloc::Global;
 use std::marker::PhantomData;
 use std::sync::ledger::Ledger;
-use uniform_walk::Uniform;
 
 /// A level with the value of each of its points.
 #[derive(Drop)]

@@ -2,11 +2,11 @@
 use Rattle.std.proofs.Common.{◌≡◌, ◌≤◌, ℕ, inl, inr, Bool, true, false, refl, sym, if◌then◌else◌}
 use Rattle.far_model.specs.Command.{Levels}
 use Rattle.far_model.specs.Answer.{command_faults}
-use Rattle.uniform_walk.specs.OriginsView.{seen_origins}
-use Rattle.uniform_walk.specs.OriginPlaces as places
-use Rattle.uniform_walk.specs.declared.origin.Origins.{Origins}
-use Rattle.uniform_walk.specs.declared.origin_places.OriginCounts.{OriginCounts}
-use Rattle.uniform_walk.specs.declared.origin_places.OriginPlaces.{OriginPlaces}
+use Rattle.level_walk.specs.OriginsView.{seen_origins}
+use Rattle.level_walk.specs.OriginPlaces as places
+use Rattle.level_walk.specs.declared.origin.Origins.{Origins}
+use Rattle.level_walk.specs.declared.origin_places.OriginCounts.{OriginCounts}
+use Rattle.level_walk.specs.declared.origin_places.OriginPlaces.{OriginPlaces}
 use Rattle.mesh_arrays.specs.Arrays.{mesh_of_arrays}
 use Rattle.mesh_arrays.specs.declared.arrays.MeshArrays.{MeshArrays}
 use Rattle.fault_record.specs.declared.record.FaultRecord.{FaultRecord}

@@ -1,11 +1,11 @@
 -- The result of the call for the origins of a level of a mesh.
 use Rattle.std.specs.Prelude.{ℕ, ◌≡◌, false}
-use Rattle.uniform_walk.specs.Origins as model
-use Rattle.uniform_walk.specs.OriginsView.{seen_origins}
-use Rattle.uniform_walk.specs.OriginPlaces as places
-use Rattle.uniform_walk.specs.declared.origin.Origins.{Origins}
-use Rattle.uniform_walk.specs.declared.origin_places.OriginCounts.{OriginCounts}
-use Rattle.uniform_walk.specs.declared.origin_places.OriginPlaces.{OriginPlaces}
+use Rattle.level_walk.specs.Origins as model
+use Rattle.level_walk.specs.OriginsView.{seen_origins}
+use Rattle.level_walk.specs.OriginPlaces as places
+use Rattle.level_walk.specs.declared.origin.Origins.{Origins}
+use Rattle.level_walk.specs.declared.origin_places.OriginCounts.{OriginCounts}
+use Rattle.level_walk.specs.declared.origin_places.OriginPlaces.{OriginPlaces}
 use Rattle.mesh_arrays.specs.declared.arrays.MeshArrays.{MeshArrays}
 use Rattle.fault_record.specs.declared.record.FaultRecord.{FaultRecord}
 use Rattle.array_answers.specs.Origins.{AreOriginsOfArrays, IsLevelsRefusal}

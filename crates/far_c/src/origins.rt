@@ -8,9 +8,9 @@ ghost use Rattle.far_c.specs.Status.{IsKeptUnlessRefused, IsKeptIfRefused};
 use crate::status::written;
 use array_answers::origins_of_arrays;
 use fault_record::FaultRecord;
+use level_walk::{OriginCounts, OriginPlaces, origin_counts_of, put_origins};
 use mesh_arrays::MeshArrays;
 use std::alloc::Global;
-use uniform_walk::{OriginCounts, OriginPlaces, origin_counts_of, put_origins};
 
 /// Writes the parts of a mesh on which its level at `depth`, at most 10, lies. Each point gets the kind and the number of its part, each
 /// face the face of the mesh that contains it. The call also writes the numbers of points and faces; if an array is too short, it writes

@@ -2,7 +2,7 @@
 use Rattle.std.proofs.Common.{◌≡◌, ℕ, [], ◌∷◌, ◌++◌, codes, ap}
 use Rattle.subdiv_model.specs.NumberText.{number_text}
 use Rattle.subdiv_model.specs.LevelText.{whole_text}
-use Rattle.uniform_walk.specs.Counts.{Counts}
+use Rattle.level_walk.specs.Counts.{Counts}
 use Rattle.far_text.specs.declared.summary.Summary.{Summary}
 use Rattle.far_text.specs.CountLines.{count_words, kind_words, greatest_words}
 use Rattle.far_text.specs.Stored.{agreement_line}

@@ -6,10 +6,10 @@ use Rattle.std.proofs.lemmas.List.FromFn.{get_or-enumerate_from, length-enumerat
 use Rattle.subdiv_model.specs.Level.{Level}
 use Rattle.subdiv_model.specs.Child.{refined_level}
 use Rattle.subdiv_model.specs.LevelText.{level_line, levels_text}
-use Rattle.uniform_walk.specs.declared.counts.LevelCounts.{LevelCounts}
-use Rattle.uniform_walk.specs.Counts.{Counts, counts_of}
+use Rattle.level_walk.specs.declared.counts.LevelCounts.{LevelCounts}
+use Rattle.level_walk.specs.Counts.{Counts, counts_of}
 use Rattle.far_text.specs.Levels.{counts_line, numbered_line, levels_lines}
-use Rattle.uniform_walk.specs.CountsView.{seen_counts}
+use Rattle.level_walk.specs.CountsView.{seen_counts}
 
 -- counts of no level
 pub none : ℕ × Counts

@@ -1,7 +1,7 @@
 -- The lines of counts and of a summary, piece by piece.
 use Rattle.std.specs.Prelude.{ℕ, List, [], ◌∷◌, ◌++◌, codes}
 use Rattle.subdiv_model.specs.NumberText.{number_text}
-use Rattle.uniform_walk.specs.Counts.{Counts}
+use Rattle.level_walk.specs.Counts.{Counts}
 
 -- a name, a space and a count
 abbrev pub count_words : List ℕ → ℕ → List ℕ

@@ -4,7 +4,7 @@ use Rattle.std.specs.List.{flat_map, enumerate_from}
 use Rattle.subdiv_model.specs.NumberText.{number_text}
 use Rattle.subdiv_model.specs.Text.{line_text}
 use Rattle.subdiv_model.specs.LevelText.{whole_text}
-use Rattle.uniform_walk.specs.Counts.{Counts}
+use Rattle.level_walk.specs.Counts.{Counts}
 
 -- the number of the level, and each count after its name
 abbrev pub line_words : ℕ → Counts → List (List ℕ)

@@ -1,6 +1,6 @@
 -- The text of a reply, and the conditions for putting it.
 use Rattle.std.specs.Prelude.{ℕ, List, map}
-use Rattle.uniform_walk.specs.CountsView.{seen_counts}
+use Rattle.level_walk.specs.CountsView.{seen_counts}
 use Rattle.far_text.specs.Levels.{levels_lines}
 use Rattle.far_text.specs.Mesh.{CanBePut, refined_text}
 use Rattle.far_text.specs.PatchLines.{CanPatchBePut, patch_lines}

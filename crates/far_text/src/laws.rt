@@ -10,7 +10,7 @@ ghost use Rattle.subdiv_model.specs.LevelText.{level_line, levels_text};
 ghost use Rattle.subdiv_model.specs.Refined.{Point};
 ghost use Rattle.subdiv_model.specs.Sparse.{FacePredicate};
 ghost use Rattle.subdiv_model.specs.SparseText.{sparse_text};
-ghost use Rattle.uniform_walk.specs.Counts.{counts_of};
+ghost use Rattle.level_walk.specs.Counts.{counts_of};
 ghost use Rattle.far_text.specs.Levels.{counts_line, levels_lines};
 ghost use Rattle.far_text.specs.SparseLines.{pointed_levels, sparse_lines};
 

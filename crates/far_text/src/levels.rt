@@ -3,14 +3,14 @@
 ghost use Rattle.std.specs.Prelude.{◌≡◌, ◌++◌, false, map, codes};
 ghost use Rattle.subdiv_model.specs.NumberText.{sign_text};
 ghost use Rattle.subdiv_model.specs.LevelText.{whole_text};
-ghost use Rattle.uniform_walk.specs.CountsView.{seen_counts};
+ghost use Rattle.level_walk.specs.CountsView.{seen_counts};
 ghost use Rattle.obj_out.specs.Puts.{Puts};
 ghost use Rattle.far_text.specs.Levels.{counts_line, levels_lines};
 ghost use Rattle.far_text.specs.CountLines.{kind_words};
 
 use far_io::{Sink, WriteFailed};
+use level_walk::LevelCounts;
 use obj_out::Out;
-use uniform_walk::LevelCounts;
 
 // Puts `-` if Euler's number is below 0.
 fn put_sign<K: Sink>(out: &mut Out<'_, K>, counts: &LevelCounts) -> Result<(), WriteFailed>

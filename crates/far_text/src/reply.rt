@@ -14,10 +14,10 @@ use crate::stored::{TablePoints, put_agreement, put_table_points};
 use crate::summary::{Summary, put_summary};
 use crate::textured_sparse::{TexturedSparse, put_textured_sparse};
 use far_io::{Sink, WriteFailed};
+use level_walk::LevelCounts;
 use obj_out::Out;
 use stencil_apply::StencilTable;
 use table_file::put_table;
-use uniform_walk::LevelCounts;
 
 /// The result of a command. It is complete before the program writes its first byte.
 #[derive(Drop)]

@@ -1,3 +1,13 @@
 pub mod Round
 pub mod View
 pub mod Walk
+pub mod UniformFaults
+pub mod UniformLevels
+pub mod UniformStep
+pub mod Counts
+pub mod CountsView
+pub mod Origins
+pub mod ChildOrigins
+pub mod OriginsView
+pub mod OriginLaws
+pub mod OriginPlaces

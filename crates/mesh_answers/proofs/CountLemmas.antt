@@ -13,15 +13,15 @@ use Rattle.mask_laws.specs.SharpBoundary.{has_sharp_boundary}
 use Rattle.mask_laws.proofs.BoundaryLemmas.{boundary-base}
 use Rattle.level_topology.specs.Topology.{Topology}
 use Rattle.mesh_check.specs.Checked.{IsAccepted}
-use Rattle.uniform_walk.specs.declared.counts.LevelCounts.{LevelCounts}
-use Rattle.uniform_walk.specs.Counts.{counts_of}
-use Rattle.uniform_walk.specs.CountsView.{seen_counts}
+use Rattle.level_walk.specs.declared.counts.LevelCounts.{LevelCounts}
+use Rattle.level_walk.specs.Counts.{counts_of}
+use Rattle.level_walk.specs.CountsView.{seen_counts}
 use Rattle.level_walk.specs.declared.fault.WalkFault.{WalkFault}
 use Rattle.ratio128.specs.StepsTaken.{StepsTaken}
 use Rattle.far_fault.specs.Walk.{walk_fault_of}
-use Rattle.uniform_walk.specs.Faults.{IsChannelFault}
-use Rattle.uniform_walk.specs.Levels.{AreMade, faces_to}
-use Rattle.uniform_walk.proofs.FaultLemmas.{no-fault-made}
+use Rattle.level_walk.specs.UniformFaults.{IsChannelFault}
+use Rattle.level_walk.specs.UniformLevels.{AreMade, faces_to}
+use Rattle.level_walk.proofs.UniformFaultLemmas.{no-fault-made}
 use Rattle.far_text.specs.Levels.{levels_lines}
 use Rattle.far_text.proofs.LevelsLemmas.{lines-of-levels}
 use Rattle.far_text.specs.declared.reply.Reply.{Reply}

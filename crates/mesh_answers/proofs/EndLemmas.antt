@@ -11,7 +11,7 @@ use Rattle.ratio128.specs.StepsTaken.{StepsTaken}
 use Rattle.ratio128.specs.declared.point.Point2.{Point2}
 use Rattle.ratio128.specs.declared.point.Point3.{Point3}
 use Rattle.level_walk.specs.declared.fault.WalkFault.{WalkFault}
-use Rattle.uniform_walk.specs.Faults.{IsChannelFault}
+use Rattle.level_walk.specs.UniformFaults.{IsChannelFault}
 use Rattle.channel_refine.specs.Refined.{AreRefineSteps}
 use Rattle.channel_refine.specs.declared.refine.RefinedChannel.{RefinedChannel}
 use Rattle.far_fault.specs.View.{fault_of}

@@ -18,7 +18,7 @@ use Rattle.subdiv_model.specs.Sparse.{FacePredicate, predicate_to}
 use Rattle.far_model.specs.Command as command
 use Rattle.far_model.specs.Command.{MapOptions}
 use Rattle.far_model.specs.Answer.{map_leaf, map_mesh_faults, predicate_by, positions_of, test_of}
-use Rattle.uniform_walk.proofs.FaultLemmas.{first-behind}
+use Rattle.level_walk.proofs.UniformFaultLemmas.{first-behind}
 use Rattle.level_topology.specs.Topology.{Topology}
 use Rattle.level_walk.specs.declared.fault.WalkFault.{WalkFault}
 use Rattle.mesh_check.specs.Checked.{IsAccepted}

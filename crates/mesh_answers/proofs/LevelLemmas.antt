@@ -19,8 +19,8 @@ use Rattle.level_walk.specs.declared.fault.Cause.{Cause}
 use Rattle.level_walk.specs.declared.fault.Cause.TheVariants.{TooManyFaces, Overflow, TooManyEntries, Memory}
 use Rattle.mesh_check.specs.Counts.{count_named}
 use Rattle.mesh_check.specs.Checked.{IsAccepted}
-use Rattle.uniform_walk.specs.Faults.{IsLevelFault, IsTooLarge}
-use Rattle.uniform_walk.proofs.FaultLemmas.{first-here, flat-none, first-from-0}
+use Rattle.level_walk.specs.UniformFaults.{IsLevelFault, IsTooLarge}
+use Rattle.level_walk.proofs.UniformFaultLemmas.{first-here, flat-none, first-from-0}
 use Rattle.far_fault.specs.Walk.{fault_at}
 use Rattle.mesh_answers.specs.Refusals.{IsFound, refusal_by}
 use Rattle.mesh_answers.proofs.RefusalLemmas.{refusal-of-small}

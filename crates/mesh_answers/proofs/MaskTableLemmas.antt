@@ -12,7 +12,7 @@ use Rattle.subdiv_model.specs.Support.{mask_support, source_support}
 use Rattle.subdiv_model.specs.Channel.{Channel, number_bound, entry_bound, channel_level}
 use Rattle.subdiv_model.specs.Fault.{Fault, Counted, TooLarge, Track, Overflow, DenominatorOverflow, ValueOverflow}
 use Rattle.far_model.specs.Answer.{positions_of, table_faults}
-use Rattle.uniform_walk.proofs.FaultLemmas.{first-here, first-behind}
+use Rattle.level_walk.proofs.UniformFaultLemmas.{first-here, first-behind}
 use Rattle.stencil_apply.specs.Table.{Table, IsTable, greatest_of}
 use Rattle.stencil_factory.specs.Rows.{supports_of, dens_of}
 use Rattle.stencil_factory.specs.MaskRows.{AreMaskRows, mask_dens, mask_entries}

@@ -6,12 +6,12 @@ use Rattle.subdiv_model.specs.Fault.{Positions}
 use Rattle.subdiv_model.specs.Channel.{Sharpnesses, channel_faults}
 use Rattle.far_model.specs.Answer.{positions_of}
 use Rattle.level_topology.specs.Topology.{Topology}
-use Rattle.uniform_walk.specs.Origins.{origins_to}
-use Rattle.uniform_walk.specs.ChildOrigins.{AreFew}
-use Rattle.uniform_walk.specs.OriginsView.{seen_origins}
-use Rattle.uniform_walk.specs.declared.origin.Origins.{Origins}
-use Rattle.uniform_walk.specs.Levels.{AreMade}
-use Rattle.uniform_walk.proofs.FaultLemmas.{no-fault-made}
+use Rattle.level_walk.specs.Origins.{origins_to}
+use Rattle.level_walk.specs.ChildOrigins.{AreFew}
+use Rattle.level_walk.specs.OriginsView.{seen_origins}
+use Rattle.level_walk.specs.declared.origin.Origins.{Origins}
+use Rattle.level_walk.specs.UniformLevels.{AreMade}
+use Rattle.level_walk.proofs.UniformFaultLemmas.{no-fault-made}
 use Rattle.mesh_answers.specs.Levels.{IsLevelWithin}
 use Rattle.mesh_answers.specs.Origins.{AreOriginsOf}
 use Rattle.mesh_answers.proofs.RefusalLemmas.{refusal-of-others, small-manifold}

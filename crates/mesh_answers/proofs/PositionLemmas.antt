@@ -21,7 +21,7 @@ use Rattle.ratio128.specs.StepsTaken.{StepsTaken}
 use Rattle.ratio128.specs.declared.point.Point3.{Point3}
 use Rattle.ratio128.specs.declared.valued.Valued.{Valued}
 use Rattle.primvar_refine.specs.View.{rows_of}
-use Rattle.uniform_walk.specs.Faults.{IsChannelFault}
+use Rattle.level_walk.specs.UniformFaults.{IsChannelFault}
 use Rattle.channel_refine.specs.Base.{IsBase, channel_of}
 use Rattle.channel_refine.specs.Refined.{AreControls, AreRefineSteps, IsRefinedTo, path_steps}
 use Rattle.channel_refine.specs.View.{refined_of}

@@ -9,7 +9,7 @@ use Rattle.subdiv_model.specs.MeshFault.{MeshFault, first_mesh_fault}
 use Rattle.subdiv_model.specs.Limits.{count_faults, level_count_faults}
 use Rattle.mesh_laws.proofs.FaultLemmas.{fault-decides}
 use Rattle.mesh_laws.proofs.WalkLemmas.{manifold-decides}
-use Rattle.uniform_walk.proofs.FaultLemmas.{first-here, first-behind}
+use Rattle.level_walk.proofs.UniformFaultLemmas.{first-here, first-behind}
 use Rattle.level_topology.specs.Topology.{Topology}
 use Rattle.far_fault.specs.declared.fault.FarFault.{FarFault}
 use Rattle.mesh_answers.specs.Refusals.{IsFound, refusal_by, refusal_unless}

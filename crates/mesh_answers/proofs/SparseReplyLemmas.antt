@@ -16,7 +16,7 @@ use Rattle.ratio128.specs.StepsTaken.{StepsTaken}
 use Rattle.ratio128.specs.declared.point.Point2.{Point2}
 use Rattle.ratio128.specs.declared.point.Point3.{Point3}
 use Rattle.sparse_level.specs.declared.values.SparseValues.{SparseValues}
-use Rattle.uniform_walk.proofs.FaultLemmas.{first-behind}
+use Rattle.level_walk.proofs.UniformFaultLemmas.{first-behind}
 use Rattle.far_fault.specs.View.{fault_of}
 use Rattle.far_fault.specs.declared.fault.FarFault.{FarFault}
 use Rattle.far_text.specs.Points.{CanBeWritten}

@@ -10,8 +10,8 @@ use Rattle.subdiv_model.specs.Fault.{Positions}
 use Rattle.subdiv_model.specs.Channel.{Channel, Tables, channel_faults}
 use Rattle.far_model.specs.Answer.{own_table, positions_of, table_faults}
 use Rattle.level_walk.specs.declared.fault.WalkFault.{WalkFault}
-use Rattle.uniform_walk.specs.Faults.{IsChannelFault}
-use Rattle.uniform_walk.specs.Levels.{AreLevelSteps}
+use Rattle.level_walk.specs.UniformFaults.{IsChannelFault}
+use Rattle.level_walk.specs.UniformLevels.{AreLevelSteps}
 use Rattle.ratio128.specs.StepsTaken.{StepsTaken}
 use Rattle.stencil_apply.specs.Table.{IsTable}
 use Rattle.channel_refine.specs.Composed.{IsComposedTo}

@@ -39,8 +39,8 @@ use Rattle.primvar_refine.specs.View.{rows_of}
 use Rattle.face_varying.specs.Cut.{CutChannel, IsCut}
 use Rattle.far_text.specs.Texture.{texture_points_of, CanTextureBeWritten, IsSameTexturePoint, HasTextureDenominators}
 use Rattle.level_walk.specs.declared.fault.WalkFault.{WalkFault}
-use Rattle.uniform_walk.specs.Levels.{faces_to}
-use Rattle.uniform_walk.specs.Faults.{IsChannelFault}
+use Rattle.level_walk.specs.UniformLevels.{faces_to}
+use Rattle.level_walk.specs.UniformFaults.{IsChannelFault}
 use Rattle.channel_refine.specs.Base.{IsBase, channel_of}
 use Rattle.channel_refine.specs.Refined.{AreControls, AreRefineSteps, IsRefinedTo, path_steps}
 use Rattle.channel_refine.specs.View.{refined_of}

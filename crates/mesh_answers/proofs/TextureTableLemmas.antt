@@ -13,8 +13,8 @@ use Rattle.raw_mesh.specs.View.{texture_of as value_of}
 use Rattle.ratio128.specs.StepsTaken.{StepsTaken}
 use Rattle.ratio128.specs.declared.point.Point2.{Point2}
 use Rattle.level_walk.specs.declared.fault.WalkFault.{WalkFault}
-use Rattle.uniform_walk.specs.Faults.{IsChannelFault}
-use Rattle.uniform_walk.specs.Levels.{AreLevelSteps, faces_to}
+use Rattle.level_walk.specs.UniformFaults.{IsChannelFault}
+use Rattle.level_walk.specs.UniformLevels.{AreLevelSteps, faces_to}
 use Rattle.stencil_apply.specs.Table.{IsTable}
 use Rattle.channel_refine.specs.Composed.{IsComposedTo}
 use Rattle.channel_refine.specs.View.{composed_of}

@@ -11,9 +11,9 @@ use Rattle.subdiv_model.specs.Limits.{count_faults, level_count_faults}
 use Rattle.subdiv_model.specs.ObjMesh.{ObjMesh}
 use Rattle.level_topology.specs.Topology.{Topology}
 use Rattle.mesh_check.specs.Checked.{IsAccepted}
-use Rattle.uniform_walk.specs.declared.counts.LevelCounts.{LevelCounts}
-use Rattle.uniform_walk.specs.Counts.{counts_of}
-use Rattle.uniform_walk.specs.CountsView.{seen_counts}
+use Rattle.level_walk.specs.declared.counts.LevelCounts.{LevelCounts}
+use Rattle.level_walk.specs.Counts.{counts_of}
+use Rattle.level_walk.specs.CountsView.{seen_counts}
 use Rattle.mesh_answers.specs.Refusals.{refusal_by, refusal_of_mesh, IsFound}
 
 -- the mesh is a manifold, and its counts and the faces of its levels up to a depth are within their limits

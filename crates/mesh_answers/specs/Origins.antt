@@ -3,10 +3,10 @@ use Rattle.std.specs.Prelude.{ℕ, ◌≡◌, None, Result, MatchResult}
 use Rattle.far_model.specs.Command.{Levels}
 use Rattle.subdiv_model.specs.Base.{base_level}
 use Rattle.subdiv_model.specs.ObjMesh.{ObjMesh}
-use Rattle.uniform_walk.specs.Origins.{origins_to}
-use Rattle.uniform_walk.specs.ChildOrigins.{AreFew}
-use Rattle.uniform_walk.specs.OriginsView.{seen_origins}
-use Rattle.uniform_walk.specs.declared.origin.Origins.{Origins}
+use Rattle.level_walk.specs.Origins.{origins_to}
+use Rattle.level_walk.specs.ChildOrigins.{AreFew}
+use Rattle.level_walk.specs.OriginsView.{seen_origins}
+use Rattle.level_walk.specs.declared.origin.Origins.{Origins}
 use Rattle.far_fault.specs.View.{fault_of}
 use Rattle.far_fault.specs.declared.fault.FarFault.{FarFault}
 use Rattle.mesh_answers.specs.Refusals.{refusal_of_mesh, IsFound}

@@ -13,12 +13,11 @@ use crate::level::level_within;
 use far_fault::{FarFault, Track, fault_of_walk};
 use far_text::Reply;
 use level_topology::Level;
-use level_walk::WalkFault;
+use level_walk::{LevelCounts, WalkFault, count_levels};
 use ratio128::Steps;
 use raw_mesh::RawMesh;
 use std::alloc::Global;
 use std::sync::ledger::Ledger;
-use uniform_walk::{LevelCounts, count_levels};
 
 // The counts of the levels of a mesh, from its level 0. No level up to the depth has too many faces.
 fn counts_from<L: Ledger>(

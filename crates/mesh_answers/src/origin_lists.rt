@@ -10,11 +10,11 @@ ghost use Rattle.mesh_answers.specs.StepCounts.{later_faces, level_faces_to};
 use crate::level::level_within;
 use far_fault::{FarFault, Track, fault_of_walk};
 use level_topology::Level;
+use level_walk::{Origins, find_origins};
 use ratio128::Steps;
 use raw_mesh::RawMesh;
 use std::alloc::Global;
 use std::sync::ledger::Ledger;
-use uniform_walk::{Origins, find_origins};
 
 // The origins of a level of a mesh, from its level 0. No level up to the depth has too many faces.
 fn origins_from<L: Ledger>(

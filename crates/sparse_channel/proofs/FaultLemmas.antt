@@ -17,7 +17,7 @@ use Rattle.primvar_refine.specs.Rows.{greatest_of}
 use Rattle.level_walk.specs.declared.fault.Cause.{Cause}
 use Rattle.level_walk.specs.declared.fault.Cause.TheVariants as cause
 use Rattle.level_walk.specs.declared.fault.OverflowKind.TheVariants as kind
-use Rattle.uniform_walk.proofs.FaultLemmas.{flat-none, first-from-0}
+use Rattle.level_walk.proofs.UniformFaultLemmas.{flat-none, first-from-0}
 use Rattle.sparse_walk.specs.Faults.{HasNoFaultTo, IsCauseAt}
 use Rattle.channel_refine.specs.Step.{IsCarryCause}
 use Rattle.channel_refine.proofs.FaultLemmas.{HasNoFault, IsFirstHeld, none-held, first-held}

@@ -30,7 +30,7 @@ use Rattle.sparse_values.specs.Uniform.{items_at, next_points_of}
 use Rattle.level_topology.specs.Child.{PointOrigin, FromVertex, FromFace, FromEdge, same_origin}
 use Rattle.level_topology.specs.ChildTables.{numbered_origin}
 use Rattle.child_masks.specs.Masks.{mask_from, masks_from, has_origin}
-use Rattle.uniform_walk.proofs.OriginLemmas.{masks-of-all}
+use Rattle.level_walk.proofs.OriginLemmas.{masks-of-all}
 
 -- the origin of a point with a number
 abbrev pub origin_in : Level → ℕ → PointOrigin

@@ -14,7 +14,7 @@ use Rattle.subdiv_model.specs.Channel.{Channel, Asked, Sharpnesses, fault_where,
 use Rattle.level_walk.specs.declared.fault.Cause.{Cause}
 use Rattle.level_walk.specs.declared.fault.Cause.TheVariants as cause
 use Rattle.level_walk.specs.declared.fault.OverflowKind.TheVariants as kind
-use Rattle.uniform_walk.proofs.FaultLemmas.{flat-none, first-from-0}
+use Rattle.level_walk.proofs.UniformFaultLemmas.{flat-none, first-from-0}
 use Rattle.sparse_laws.proofs.OverflowLemmas.{faces-counted, overflows-here, overflows-there}
 use Rattle.sparse_level.specs.View.{SparseTopology, SparseChild}
 use Rattle.sparse_refiner.specs.Refined.{IsRefined, SparseOf, places_for}

@@ -17,7 +17,7 @@ use Rattle.sparse_level.specs.View.{SparseTopology, SparseChild, level_of, next_
 use Rattle.sparse_refiner.specs.Refined.{IsRefined, IsRefusal, SparseOf}
 use Rattle.uniform_refiner.specs.declared.fault.RefineFault.{RefineFault}
 use Rattle.uniform_refiner.specs.declared.fault.RefineFault.TheVariants.{TooLarge, Chaikin, Memory}
-use Rattle.uniform_walk.specs.Step.{cause_of}
+use Rattle.level_walk.specs.UniformStep.{cause_of}
 use Rattle.sparse_walk.specs.Step.{AgreesBefore, StandsFor, IsReadyFor, IsSparseCause}
 use Rattle.sparse_walk.proofs.MaskLemmas.{kept, by, can-refine}
 

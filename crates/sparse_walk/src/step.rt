@@ -3,13 +3,12 @@
 use crate::walked::WalkedSparse;
 use feature_select::{FaceTest, SelectRule};
 use level_topology::{Child, FaceFacts, Level};
-use level_walk::{Cause, NextLevel};
+use level_walk::{Cause, NextLevel, with_cause};
 use ratio128::Steps;
 use sparse_level::SparseStep;
 use sparse_refiner::refine_selected;
 use std::alloc::Global;
 use std::sync::ledger::Ledger;
-use uniform_walk::with_cause;
 
 /// The step to the present part of the next level: the child faces at the vertices of the faces that a rule selects. Each
 /// present face is one step of the counter.

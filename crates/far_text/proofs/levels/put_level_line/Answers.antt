@@ -1,5 +1,5 @@
 use Rattle.obj_out.proofs.PutsLemmas.{puts-after, puts-cut, puts-same}
-use Rattle.uniform_walk.specs.CountsView.{seen_counts}
+use Rattle.level_walk.specs.CountsView.{seen_counts}
 use Rattle.far_text.proofs.CountLineLemmas.{level-by-words}
 use Rattle.far_text.proofs.levels.put_level_line.Goals as goal
 

@@ -2,7 +2,7 @@ use Rattle.std.proofs.Common.{take, map, Ok}
 use Rattle.std.specs.List.{flat_map, enumerate_from}
 use Rattle.obj_out.specs.Puts.{Puts}
 use Rattle.far_text.specs.Levels.{numbered_line}
-use Rattle.uniform_walk.specs.CountsView.{seen_counts}
+use Rattle.level_walk.specs.CountsView.{seen_counts}
 use Rattle.far_text.proofs.levels.put_levels.Given as goal
 
 -- the lines so far

@@ -4,7 +4,7 @@ use Rattle.level_topology.specs.Topology.{IsTopology}
 use Rattle.child_masks.specs.Masks.{CanRefine}
 use Rattle.sparse_level.specs.View.{SparseTopology}
 use Rattle.sparse_refiner.specs.Refined.{IsRefined, IsRefusal, places_for}
-use Rattle.uniform_walk.proofs.StepLemmas.{as-step}
+use Rattle.level_walk.proofs.UniformStepLemmas.{as-step}
 use Rattle.sparse_walk.proofs.StepLemmas.{where-made, sparse-cause, masks-here, ready-next}
 use Rattle.sparse_walk.proofs.step.SparseNextLevel.next_level.Goals as goal
 

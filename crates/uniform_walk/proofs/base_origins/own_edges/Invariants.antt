@@ -1,9 +1,0 @@
-use Rattle.std.proofs.Common.{◌≡◌, map}
-use Rattle.std.specs.List.{range_with_len}
-use Rattle.uniform_walk.specs.Origins.{OnEdge}
-use Rattle.uniform_walk.specs.OriginsView.{seen_origin}
-use Rattle.uniform_walk.proofs.base_origins.own_edges.Given as goal
-
--- the edges so far
-abbrev pub invariant-loop-e : goal.invariant-loop-e
-invariant-loop-e l = map seen_origin l.edges.items ≡ map OnEdge (range_with_len 0 l.e)

@@ -1,8 +1,0 @@
-use Rattle.std.proofs.Common.{◌≡◌, take}
-use Rattle.std.specs.List.{count_by}
-use Rattle.subdiv_model.specs.Edges.{edges_of, is_boundary}
-use Rattle.uniform_walk.proofs.edges.boundary_edges.Given as goal
-
--- the edges so far
-abbrev pub invariant-loop-e : goal.invariant-loop-e
-invariant-loop-e l = l.count ≡ count_by (is_boundary l.level.level.polygons) (take l.e (edges_of l.level.level.polygons))

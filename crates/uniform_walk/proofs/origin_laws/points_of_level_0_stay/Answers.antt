@@ -1,5 +1,0 @@
-use Rattle.uniform_walk.proofs.OriginLawLemmas.{own-points}
-use Rattle.uniform_walk.proofs.origin_laws.points_of_level_0_stay.Goals as goal
-
-pub returns : goal.returns
-returns c = own-points
