@@ -16,3 +16,16 @@ pub mod EvaluatedLemmas
 pub mod NumeratorLemmas
 pub mod LevelTableLemmas
 pub mod PathLemmas
+mod SparseListLemmas
+mod SparseOriginLemmas
+mod SparseTableLemmas
+mod SparseOrderLemmas
+mod SparseFaultLemmas
+mod SparseNextLemmas
+mod SparseLevelLemmas
+mod SparseWalkedLemmas
+mod SparseValuedLemmas
+mod SparseMarkLemmas
+mod SparseRowLemmas
+mod SparseStartLemmas
+mod SparseListedLemmas

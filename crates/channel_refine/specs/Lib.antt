@@ -5,3 +5,8 @@ pub mod Causes
 pub mod Composed
 pub mod Evaluated
 pub mod View
+pub mod SparseRefined
+pub mod SparseView
+pub mod SparseComposed
+pub mod SparseMarks
+pub mod SparseStart

@@ -16,8 +16,8 @@ use Rattle.channel_refine.specs.Evaluated.{control_rows}
 use Rattle.channel_refine.specs.Refined.{AreControls}
 use Rattle.sparse_level.specs.declared.values.SparseValues.{SparseValues}
 use Rattle.level_walk.specs.declared.fault.WalkFault.{WalkFault}
-use Rattle.sparse_channel.specs.Refined.{AreSparseTo, IsSparseFaultTo}
-use Rattle.sparse_channel.specs.View.{sparse_rows}
+use Rattle.channel_refine.specs.SparseRefined.{AreSparseTo, IsSparseFaultTo}
+use Rattle.channel_refine.specs.SparseView.{sparse_rows}
 use Rattle.sparse_texture_laws.specs.Selection.{IsSelection}
 use Rattle.sparse_texture_laws.proofs.SelectionLemmas.{cut-selection}
 use Rattle.sparse_face_varying.proofs.WrittenLemmas.{levels-count, levels-written}

@@ -25,8 +25,8 @@ use Rattle.channel_refine.specs.Refined.{AreControls}
 use Rattle.channel_refine.specs.Evaluated.{control_rows}
 use Rattle.channel_refine.proofs.ValueLemmas.{dens-of-rows}
 use Rattle.sparse_walk.specs.Faults.{IsCauseAt}
-use Rattle.sparse_channel.specs.Refined.{AreSparseLevels, AreSparseSteps, AreSparseTo, IsSparseFaultTo, IsSparseLevel, SparseRows}
-use Rattle.sparse_channel.specs.View.{sparse_rows}
+use Rattle.channel_refine.specs.SparseRefined.{AreSparseLevels, AreSparseSteps, AreSparseTo, IsSparseFaultTo, IsSparseLevel, SparseRows}
+use Rattle.channel_refine.specs.SparseView.{sparse_rows}
 use Rattle.sparse_level.specs.declared.values.SparseValues.{SparseValues}
 use Rattle.far_fault.specs.View.{fault_of}
 use Rattle.far_fault.specs.Walk.{fault_at, walk_fault_of}

@@ -26,8 +26,8 @@ use Rattle.ratio128.specs.declared.valued.Valued.{Valued}
 use Rattle.channel_refine.specs.Refined.{AreControls}
 use Rattle.channel_refine.specs.Evaluated.{control_rows}
 use Rattle.channel_refine.proofs.ValueLemmas.{dens-of-rows}
-use Rattle.sparse_channel.specs.Refined.{AreSparseLevels, IsSparseFault, IsSparseLevel}
-use Rattle.sparse_channel.specs.View.{sparse_rows}
+use Rattle.channel_refine.specs.SparseRefined.{AreSparseLevels, IsSparseFault, IsSparseLevel}
+use Rattle.channel_refine.specs.SparseView.{sparse_rows}
 use Rattle.sparse_level.specs.declared.values.SparseValues.{SparseValues}
 use Rattle.sparse_face_varying.specs.Steps.{ArePredicateSteps}
 use Rattle.sparse_texture_laws.specs.Selection.{IsSelection}

@@ -21,7 +21,7 @@ use Rattle.primvar_refine.specs.View.{row_of, rows_of}
 use Rattle.channel_refine.specs.Refined.{column_of}
 use Rattle.channel_refine.specs.Evaluated.{control_rows}
 use Rattle.channel_refine.proofs.PathLemmas.{control-rows}
-use Rattle.sparse_channel.specs.Refined.{IsSparseLevel}
+use Rattle.channel_refine.specs.SparseRefined.{IsSparseLevel}
 use Rattle.far_text.specs.Points.{points_of, IsSamePoint, HasDenominators}
 use Rattle.mesh_answers.proofs.ColumnLemmas.{IsColumn, scaled, column-behind, control-column, dens-positive}
 use Rattle.mesh_answers.proofs.PointLemmas.{numbers}

@@ -11,14 +11,13 @@ ghost use Rattle.mesh_answers.specs.StepCounts.{sparse_position_steps};
 
 use crate::level::level_0;
 use crate::tracks::position_channel;
-use channel_refine::BaseChannel;
+use channel_refine::{BaseChannel, refine_sparse};
 use far_fault::{FarFault, Track, fault_of_walk};
 use far_words::{Select, SparseOptions};
 use feature_select::{Every, FaceTest, Feature, SelectRule, is_feature, is_selectable};
 use level_topology::FaceFacts;
 use ratio128::{Point3, Steps};
 use raw_mesh::RawMesh;
-use sparse_channel::refine_sparse;
 use sparse_level::SparseValues;
 use std::alloc::Global;
 use std::sync::ledger::Ledger;

@@ -5,8 +5,8 @@ use Rattle.subdiv_model.specs.Channel.{Channel}
 use Rattle.subdiv_model.specs.Sparse.{FacePredicate}
 use Rattle.primvar_refine.specs.Rows.{Row}
 use Rattle.sparse_level.specs.declared.values.SparseValues.{SparseValues}
-use Rattle.sparse_channel.specs.Refined.{SparseRows, AreSparseLevels}
-use Rattle.sparse_channel.specs.View.{sparse_rows}
+use Rattle.channel_refine.specs.SparseRefined.{SparseRows, AreSparseLevels}
+use Rattle.channel_refine.specs.SparseView.{sparse_rows}
 use Rattle.sparse_face_varying.specs.Chosen.{AreWritten}
 
 -- there is a level for each number to the depth

@@ -2,8 +2,8 @@ use Rattle.std.proofs.Common.{◌+◌, ◌≤◌, map, MatchResult, rules, arith
 use Rattle.std.proofs.lemmas.Grind.{common_steps, elements}
 use Rattle.subdiv_model.specs.Sparse.{FacePredicate}
 use Rattle.channel_refine.specs.Evaluated.{control_rows}
-use Rattle.sparse_channel.specs.Refined.{AreSparseLevels, IsSparseFault, present_to, entries_to}
-use Rattle.sparse_channel.specs.View.{sparse_rows}
+use Rattle.channel_refine.specs.SparseRefined.{AreSparseLevels, IsSparseFault, present_to, entries_to}
+use Rattle.channel_refine.specs.SparseView.{sparse_rows}
 use Rattle.sparse_face_varying.specs.Chosen.{AreAscending}
 use Rattle.sparse_face_varying.proofs.RefineLemmas.{rule-predicate, selection-ascends}
 use Rattle.sparse_face_varying.proofs.refine.refine_sparse_texture.Goals as goal

@@ -1,0 +1,67 @@
+//! The sparse levels of a channel with their tables.
+
+ghost use Rattle.std.specs.Prelude.{◌≤◌, IfOk, MatchResult};
+ghost use Rattle.feature_select.specs.Rule.{AnswersTest};
+ghost use Rattle.channel_refine.specs.Base.{IsBase};
+ghost use Rattle.channel_refine.specs.SparseComposed.{AreComposedTo, AreComposeSteps};
+ghost use Rattle.channel_refine.specs.SparseRefined.{IsSparseFaultTo};
+ghost use Rattle.channel_refine.specs.SparseStart.{IsStart};
+
+use crate::base::BaseChannel;
+use crate::table::ByTable;
+use feature_select::{FaceTest, SelectRule};
+use level_topology::{FaceFacts, Level};
+use level_walk::{Reached, WalkFault, walk};
+use ratio128::{Memory, Steps};
+use sparse_walk::{Keeping, KeptLevel, Sparse, WalkedSparse};
+use std::alloc::Global;
+use std::sync::ledger::Ledger;
+use stencil_apply::StencilTable;
+use stencil_factory::identity;
+
+// Returns level 0 with the table of its own points: the start of the walk.
+fn start_at(alloc: Global, level: Level) -> Result<Reached<WalkedSparse, StencilTable>, Memory>
+    requires { IsBase level }
+    ensures { IfOk result (λ start. IsStart level start) }
+{
+    let carried = identity(alloc, level.points())?;
+    carried.facts();
+    let level = WalkedSparse::base(alloc, level)?;
+    Ok(Reached { level, carried })
+}
+
+// Returns the sparse levels of a channel from 0 to `depth`, each with the table of its points. The call counts at most one step for each
+// face of the levels after the first.
+pub(crate) fn compose_sparse<T: FaceTest, F: Fn(&FaceFacts) -> bool, L: Ledger>(
+    alloc: Global,
+    base: BaseChannel,
+    rule: &SelectRule<T, F>,
+    depth: u32,
+    steps: &mut Steps<L>,
+) -> Result<Vec<KeptLevel<StencilTable>>, WalkFault>
+    requires depth { depth ≤ 10 }
+    requires answers { AnswersTest F.Fn rule.now.0 (T.meets rule.now.1) }
+    ensures levels { MatchResult result
+        (λ levels. AreComposedTo (T.meets rule.now.1) base depth levels.items)
+        (λ fault. IsSparseFaultTo (T.meets rule.now.1) base depth fault) }
+    ensures steps { AreComposeSteps (T.meets rule.now.1) base depth steps.old steps.new }
+{
+    let mut keeping = Keeping::with_room(alloc, depth)?;
+    base.facts();
+    let scheme = base.scheme();
+    let most = base.most();
+    let by = ByTable { scheme, most };
+    let level = base.into_level();
+    level.facts();
+    let start = start_at(alloc, level)?;
+    let end = walk(
+        alloc,
+        &Sparse { rule },
+        &by,
+        &mut keeping,
+        start,
+        depth,
+        steps,
+    )?;
+    Ok(keeping.into_levels(end.level, end.carried)?)
+}

@@ -1,5 +1,0 @@
-pub mod Refined
-pub mod View
-pub mod Composed
-pub mod Marks
-pub mod Start
