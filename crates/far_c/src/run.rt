@@ -1,9 +1,9 @@
 //! Runs of the program.
 
-ghost use Rattle.run_in_memory.specs.Runs.{RunsInMemory};
-ghost use Rattle.run_in_memory.specs.Words.{words_of};
+ghost use Rattle.far_engine.specs.MemoryRuns.{RunsInMemory};
+ghost use Rattle.far_engine.specs.MemoryWords.{words_of};
 
-use run_in_memory::{Ran, run_in_memory};
+use far_engine::{Ran, run_in_memory};
 use std::alloc::Global;
 
 /// Runs the program over slices. `words` has the words of its command line, each ended by a zero byte; `input` is its standard input.

@@ -9,3 +9,6 @@ pub mod StepLemmas
 pub mod MeshLemmas
 pub mod FrameLemmas
 pub mod PartLemmas
+pub mod MemoryAnswerLemmas
+pub mod MemorySliceLemmas
+pub mod MemoryWordLemmas

@@ -7,3 +7,5 @@ pub mod MeshPart
 pub mod FrameLines
 pub mod Laws
 pub use Rattle.far_model.specs.Words
+pub mod MemoryRuns
+pub mod MemoryWords

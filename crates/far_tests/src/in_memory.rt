@@ -1,6 +1,6 @@
 //! Whole runs over slices: the status, the texts and their lengths.
 
-use run_in_memory::{Ran, run_in_memory};
+use far_engine::{Ran, run_in_memory};
 
 const TRIANGLE: &str = "v 0 0 0\nv 12 0 0\nv 0 12 0\nf 1 2 3\n";
 

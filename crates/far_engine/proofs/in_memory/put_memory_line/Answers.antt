@@ -1,6 +1,6 @@
-use Rattle.run_in_memory.specs.Runs.{memory_line}
+use Rattle.far_engine.specs.MemoryRuns.{memory_line}
 use Rattle.memory_streams.proofs.KeptLemmas.{keeps-slice, adds-text}
-use Rattle.run_in_memory.proofs.program.put_memory_line.Goals as goal
+use Rattle.far_engine.proofs.in_memory.put_memory_line.Goals as goal
 
 pub returns : goal.returns
 returns c = record {

@@ -1,5 +1,5 @@
-use Rattle.run_in_memory.proofs.SliceLemmas.{same-out}
-use Rattle.run_in_memory.proofs.program.run_streams.Goals as goal
+use Rattle.far_engine.proofs.MemorySliceLemmas.{same-out}
+use Rattle.far_engine.proofs.in_memory.run_streams.Goals as goal
 
 pub returns : goal.returns
 returns c =

@@ -2,11 +2,12 @@
 
 ghost use Rattle.std.specs.Prelude.{◌≡◌, ◌<◌, ◌++◌, ℕ, List, map, string_bytes};
 ghost use Rattle.memory_streams.specs.Text.{KeepsSlice, text_of};
-ghost use Rattle.run_in_memory.specs.Runs.{RunsInMemory, RunsOverSlices, memory_line};
-ghost use Rattle.run_in_memory.specs.Words.{words_of};
+ghost use Rattle.far_engine.specs.MemoryRuns.{RunsInMemory, RunsOverSlices, memory_line};
+ghost use Rattle.far_engine.specs.MemoryWords.{words_of};
 
-use crate::words::words_in;
-use far_engine::{FarFault, program, report, status};
+use crate::engine::program;
+use crate::far_fault::{FarFault, report, status};
+use crate::memory_words::words_in;
 use memory_streams::{SliceSink, SliceSource};
 use ratio128::Steps;
 use std::alloc::Global;

@@ -1,4 +1,4 @@
-use Rattle.run_in_memory.proofs.program.run_streams.Given as goal
+use Rattle.far_engine.proofs.in_memory.run_streams.Given as goal
 
 abbrev pub ghosts-run_counted : goal.ghosts-run_counted
 ghosts-run_counted a = record { name = a.blank.name; parts = a.blank.parts }

@@ -10,9 +10,9 @@ use Rattle.memory_streams.specs.Text.{KeepsSlice, text_of, before_of, IsStored, 
 use Rattle.memory_streams.specs.declared.sink.SliceSink.{SliceSink}
 use Rattle.memory_streams.specs.contracts.sink.SliceSinkSink.TheImpl as sink
 use Rattle.memory_streams.specs.contracts.source.SliceSourceSource.TheImpl as source
-use Rattle.run_in_memory.specs.declared.program.Ran.{Ran}
-use Rattle.run_in_memory.specs.Runs.{RunsOverSlices, RunsInMemory, IsAnswer, line_of, memory_line}
-use Rattle.run_in_memory.proofs.AnswerLemmas.{adds-text, sink-kept}
+use Rattle.far_engine.specs.declared.in_memory.Ran.{Ran}
+use Rattle.far_engine.specs.MemoryRuns.{RunsOverSlices, RunsInMemory, IsAnswer, line_of, memory_line}
+use Rattle.far_engine.proofs.MemoryAnswerLemmas.{adds-text, sink-kept}
 
 -- a text appended to nothing
 pub from-nothing : (old new text : List ℕ) → new ≡ old ++ text → old ≡ [] → new ≡ text

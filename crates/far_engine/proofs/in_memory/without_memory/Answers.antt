@@ -1,6 +1,6 @@
 use Rattle.std.proofs.Common.{rules, refl, ◌∙◌}
-use Rattle.run_in_memory.proofs.SliceLemmas.{from-nothing, without-memory}
-use Rattle.run_in_memory.proofs.program.without_memory.Goals as goal
+use Rattle.far_engine.proofs.MemorySliceLemmas.{from-nothing, without-memory}
+use Rattle.far_engine.proofs.in_memory.without_memory.Goals as goal
 
 pub returns : goal.returns
 returns c = λ words input.

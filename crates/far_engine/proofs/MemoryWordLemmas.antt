@@ -10,7 +10,7 @@ use Rattle.std.proofs.lemmas.List.Quantifiers.{position-Some}
 use Rattle.std.proofs.lemmas.List.Splits.{slice_split_first, slice_split_none}
 use Rattle.std.proofs.lemmas.List.Sums.{position_or_len_is}
 use Rattle.std.proofs.lemmas.Str.{utf8_valid_len-IsUtf8}
-use Rattle.run_in_memory.specs.Words.{is_zero, is_utf8, words_of_parts}
+use Rattle.far_engine.specs.MemoryWords.{is_zero, is_utf8, words_of_parts}
 
 -- the first part ends at the first zero byte
 first-part : (xs : List ℕ) (k : ℕ) → position is_zero xs ≡ Some k → slice_split is_zero xs ≡ take k xs ∷ slice_split is_zero (drop (k + 1) xs)

@@ -1,7 +1,7 @@
 //! The words of a command line in one slice, each ended by a zero byte.
 
 ghost use Rattle.std.specs.Prelude.{◌≡◌, ◌+◌, ◌<◌, [], map, position, MatchOption, IfOk, string_bytes, if◌then◌else◌};
-ghost use Rattle.run_in_memory.specs.Words.{is_zero, words_of};
+ghost use Rattle.far_engine.specs.MemoryWords.{is_zero, words_of};
 
 use std::alloc::{AllocError, Global};
 

@@ -1,6 +1,6 @@
 use Rattle.std.proofs.Common.{rules, map, string_bytes, ◌∙◌}
-use Rattle.run_in_memory.proofs.SliceLemmas.{in-memory}
-use Rattle.run_in_memory.proofs.program.run_words.Goals as goal
+use Rattle.far_engine.proofs.MemorySliceLemmas.{in-memory}
+use Rattle.far_engine.proofs.in_memory.run_words.Goals as goal
 
 pub returns : goal.returns
 returns c =

@@ -7,7 +7,7 @@ use Rattle.memory_streams.specs.Text.{IsStored, count_of}
 use Rattle.memory_streams.specs.declared.sink.SliceSink.{SliceSink}
 use Rattle.memory_streams.specs.contracts.sink.SliceSinkSink.TheImpl as sink
 use Rattle.memory_streams.specs.contracts.source.SliceSourceSource.TheImpl as source
-use Rattle.run_in_memory.specs.declared.program.Ran.{Ran}
+use Rattle.far_engine.specs.declared.in_memory.Ran.{Ran}
 
 -- a run of the program over a source and two sinks that are slices, with a counter that starts at 0
 abbrev pub RunsOverSlices : List (List ℕ) → List ℕ → List ℕ → SliceSink → SliceSink → SliceSink → SliceSink → ℕ → Type 0

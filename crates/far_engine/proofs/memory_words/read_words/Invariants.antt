@@ -1,7 +1,7 @@
 use Rattle.std.proofs.Common.{◌≡◌, ◌++◌, map, length, option_map, string_bytes}
 use Rattle.std.specs.List.{slice_split}
-use Rattle.run_in_memory.specs.Words.{is_zero, words_of_parts}
-use Rattle.run_in_memory.proofs.words.read_words.Given as goal
+use Rattle.far_engine.specs.MemoryWords.{is_zero, words_of_parts}
+use Rattle.far_engine.proofs.memory_words.read_words.Given as goal
 
 -- the words so far, and those of the bytes that are left
 abbrev pub invariant-loop-at : goal.invariant-loop-at

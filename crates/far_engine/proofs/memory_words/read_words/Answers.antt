@@ -1,7 +1,7 @@
 use Rattle.std.proofs.Common.{ℕ, ◌+◌, Bool, List, [], ◌∷◌, ◌++◌, map, string_bytes, if◌then◌else◌, refl, ap, sym, ◌∙◌}
 use Rattle.std.proofs.lemmas.List.{take_rest, map-append}
-use Rattle.run_in_memory.proofs.WordLemmas.{reads-on, reads-none, reads-last}
-use Rattle.run_in_memory.proofs.words.read_words.Goals as goal
+use Rattle.far_engine.proofs.MemoryWordLemmas.{reads-on, reads-none, reads-last}
+use Rattle.far_engine.proofs.memory_words.read_words.Goals as goal
 
 pub returns-in_default-from_utf8 : goal.returns-in_default-from_utf8
 returns-in_default-from_utf8 c =

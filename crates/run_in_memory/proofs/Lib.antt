@@ -1,3 +1,0 @@
-pub mod AnswerLemmas
-pub mod SliceLemmas
-pub mod WordLemmas
