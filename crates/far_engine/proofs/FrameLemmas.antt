@@ -30,9 +30,9 @@ use Rattle.stream_laws.proofs.HandledLemmas.{handled-more}
 use Rattle.stream_laws.proofs.EndLemmas.{written-stays, last-written-stays}
 use Rattle.stream_laws.proofs.FrameLemmas.{line-stays, line-mesh_stays, line-frame}
 use Rattle.stream_laws.proofs.RuleLemmas.{frame-line, frames-end, unclosed-short, long-refused}
-use Rattle.frame_answers.specs.Posed.{Posed, IsPosedAfter}
-use Rattle.frame_answers.specs.Answers.{Answers, AnswersLine}
-use Rattle.frame_answers.specs.StepCounts.{line_steps, start_least, frames_limit}
+use Rattle.table_answers.specs.Posed.{Posed, IsPosedAfter}
+use Rattle.table_answers.specs.FrameAnswers.{Answers, AnswersLine}
+use Rattle.table_answers.specs.FrameStepCounts.{line_steps, start_least, frames_limit}
 use Rattle.far_engine.specs.Runs.{RunsStream}
 use Rattle.far_engine.specs.StepCounts.{TakesSteps}
 use Rattle.far_engine.specs.Stream.{TookLines, IsWritten, IsEnd}

@@ -16,9 +16,9 @@ use Rattle.far_fault.specs.declared.fault.FarFault.{FarFault}
 use Rattle.mesh_answers.specs.Refusals.{IsFound, refusal_of_mesh}
 use Rattle.stream_laws.specs.Handled.{text_of_lines}
 use Rattle.stream_laws.specs.Laws.{mesh_words, frame_words}
-use Rattle.frame_answers.specs.Posed.{Posed, IsPosedAfter}
-use Rattle.frame_answers.specs.Answers.{IsStart}
-use Rattle.frame_answers.specs.StepCounts.{start_least, start_limit, frames_limit}
+use Rattle.table_answers.specs.Posed.{Posed, IsPosedAfter}
+use Rattle.table_answers.specs.FrameAnswers.{IsStart}
+use Rattle.table_answers.specs.FrameStepCounts.{start_least, start_limit, frames_limit}
 use Rattle.mesh_answers.specs.MeshText.{IsMeshText, IsTextFault}
 use Rattle.far_engine.specs.Input.{input_fault_of}
 use Rattle.far_engine.specs.Stream.{IsEnd}

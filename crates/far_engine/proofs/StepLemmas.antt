@@ -14,7 +14,7 @@ use Rattle.stream_laws.specs.Handled.{has_lf, are_lines, text_of_lines}
 use Rattle.stream_laws.specs.Laws.{have_frames, mesh_words, frame_words}
 use Rattle.stream_laws.proofs.WordLemmas.{first-words, last-words}
 use Rattle.stream_laws.proofs.FrameLemmas.{mesh-stays, frames-more, line-mesh_stays, line-frame}
-use Rattle.frame_answers.specs.StepCounts.{line_steps, start_least, frames_limit}
+use Rattle.table_answers.specs.FrameStepCounts.{line_steps, start_least, frames_limit}
 use Rattle.far_engine.specs.StepCounts.{IsWithinSteps, TakesSteps, stream_limit}
 use Rattle.far_engine.proofs.StreamLemmas.{all-known}
 

@@ -19,9 +19,9 @@ use Rattle.far_fault.specs.View.{fault_of}
 use Rattle.far_fault.specs.declared.fault.FarFault.{FarFault}
 use Rattle.stream_laws.specs.Handled.{has_lf, text_of_lines, IsHandled}
 use Rattle.stream_laws.specs.Laws.{have_frames, mesh_words, frame_words}
-use Rattle.frame_answers.specs.Answers.{AnswersLine}
-use Rattle.frame_answers.specs.Posed.{Posed, IsPosedAfter}
-use Rattle.frame_answers.specs.StepCounts.{start_least, frames_limit}
+use Rattle.table_answers.specs.FrameAnswers.{AnswersLine}
+use Rattle.table_answers.specs.Posed.{Posed, IsPosedAfter}
+use Rattle.table_answers.specs.FrameStepCounts.{start_least, frames_limit}
 use Rattle.far_engine.specs.Stream.{TookLines, TookAll, IsWritten, IsEnd}
 use Rattle.far_engine.specs.Runs.{RunsStream}
 use Rattle.far_engine.specs.StepCounts.{TakesSteps}

@@ -9,7 +9,7 @@ use Rattle.subdiv_model.specs.Fault.{Fault}
 use Rattle.subdiv_model.specs.ReadObj.{obj_lines, read_obj_mesh}
 use Rattle.far_model.specs.Frames.{frame_lines}
 use Rattle.far_model.specs.Answer.{frames_lines, frames_mesh}
-use Rattle.frame_answers.specs.StepCounts.{start_least, frames_limit}
+use Rattle.table_answers.specs.FrameStepCounts.{start_least, frames_limit}
 use Rattle.mesh_answers.specs.StepCounts as mesh
 use Rattle.table_answers.specs.Answers.{stored_least, stored_limit}
 

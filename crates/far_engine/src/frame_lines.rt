@@ -9,11 +9,11 @@ ghost use Rattle.far_engine.specs.FrameLines.{AnswersFrame, CanCount, GoesOn, Is
 
 use far_fault::FarFault;
 use far_io::{LineReader, NextLine, NextText, ReadFailed, Sink, Source, TextReader};
-use frame_answers::PosedMesh;
 use obj_tags::ObjCause;
 use ratio128::Steps;
 use std::alloc::Global;
 use std::sync::ledger::Ledger;
+use table_answers::PosedMesh;
 
 // The greatest number of bytes of a frame line, with its line feed.
 const ROOM: usize = 65_536;

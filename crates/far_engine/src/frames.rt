@@ -5,18 +5,18 @@ ghost use Rattle.far_fault.specs.View.{outcome_of};
 ghost use Rattle.far_words.specs.View.{frames_of_code};
 ghost use Rattle.far_engine.specs.FrameLines.{CanCount, MayStream, Origin, RunsFrames, begun};
 ghost use Rattle.far_engine.specs.MeshPart.{RunsBehind};
-ghost use Rattle.frame_answers.specs.Answers.{IsStart};
+ghost use Rattle.table_answers.specs.FrameAnswers.{IsStart};
 
 use crate::frame_lines::FrameLines;
 use crate::mesh_part::{MeshPart, read_part};
 use far_fault::FarFault;
 use far_io::{Sink, Source};
 use far_words::FramesOptions;
-use frame_answers::PosedMesh;
 use ratio128::Steps;
 use raw_mesh::RawMesh;
 use std::alloc::Global;
 use std::sync::ledger::Ledger;
+use table_answers::PosedMesh;
 
 // The mesh refined to a depth. The function drops the mesh that was read.
 fn start<L: Ledger>(

@@ -1,2 +1,9 @@
 pub mod Place
 pub mod Answers
+pub mod FrameStepCounts
+pub mod Posed
+pub mod FrameAnswers
+pub mod FrameLines
+pub mod FramesKept
+pub mod FrameMoves
+pub mod FrameLaws

@@ -1,9 +1,0 @@
-pub mod PlaceLemmas
-pub mod MarkLemmas
-pub mod SumLemmas
-pub mod PointLemmas
-pub mod LoopLemmas
-pub mod RowLemmas
-pub mod StartLemmas
-pub mod AnswerLemmas
-pub mod LawLemmas

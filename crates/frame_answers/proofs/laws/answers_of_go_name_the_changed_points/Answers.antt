@@ -1,8 +1,0 @@
-use Rattle.frame_answers.proofs.LawLemmas.{named-all, none-waits}
-use Rattle.frame_answers.proofs.laws.answers_of_go_name_the_changed_points.Goals as goal
-
-pub returns-clause-named : goal.returns-clause-named
-returns-clause-named c = λ depth mesh lines point. named-all depth mesh point lines
-
-pub returns-clause-none : goal.returns-clause-none
-returns-clause-none c = none-waits
