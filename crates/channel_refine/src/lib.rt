@@ -3,8 +3,8 @@
 //! denominator of its point. Each call returns the last level of at most 10, or the first level that it cannot make, counted from 1, with
 //! the cause.
 //!
-//! Refines a channel of values at chosen faces only. Each level after level 0 contains the faces around the chosen ones, and each point
-//! has the value that it has in the whole level. Rows come from sparse levels only: the crate makes no whole level after level 0. It
+//! `refine_sparse` refines a channel at chosen faces only. Each level after level 0 contains the faces around the chosen ones, and each
+//! point has the value that it has in the whole level. Rows come from sparse levels only: the call makes no whole level after level 0. It
 //! keeps one table for each level and evaluates each at the points of that level.
 #![tactic(auto)]
 

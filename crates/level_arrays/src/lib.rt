@@ -1,14 +1,8 @@
-//! Writes a level of a mesh into flat arrays of a caller: the sizes and corners of faces, the ends of edges, and holes.
+//! Writes a level of a mesh, refined points and sparse levels into flat arrays of a caller.
 //!
-//! `counts_of` returns the lengths that the arrays need. No call takes memory, and none returns an error.
-//!
-//! Writes refined points into arrays of a caller: as the nearest doubles or floats, or as exact numerators and denominators.
-//!
-//! The crate also writes the numerators of texture values. No call takes memory, and none returns an error.
-//!
-//! Writes the sparse levels of a mesh into flat arrays that the caller owns.
-//!
-//! No call takes memory or reports an error. `counts_of` returns the lengths that the arrays need.
+//! A level has the sizes and corners of faces, the ends of edges, and holes. Points are the nearest doubles or floats, or exact
+//! numerators and denominators. `counts_of` and `sparse_counts_of` return the lengths that the arrays need. No call takes
+//! memory, and none returns an error.
 #![tactic(auto)]
 
 mod counts;

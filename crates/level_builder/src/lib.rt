@@ -3,11 +3,8 @@
 //! The program makes level 0 with it, and the level 0 of each cut mesh. `point_fans` finishes the level and takes over the tables of faces
 //! and edges without a copy.
 //!
-//! Sides and edges as numbers, and the numbers that occur once, often or at all among sorted numbers.
-//!
-//! A side goes from its first end to its second. An edge is the same in both directions. Each number takes 64 bits, with an end in
-//! each half. [`frequent`] sorts, and [`is_known`] searches by halves. The other calls visit each number once.
-//! [`ratio128::Memory`] is returned where memory runs out.
+//! The crate also has sides and edges as numbers of 64 bits, with an end in each half. [`frequent`] sorts such numbers, and
+//! [`is_known`] searches by halves. The other calls visit each number once. [`ratio128::Memory`]: memory ran out.
 #![tactic(auto)]
 
 mod builder;

@@ -3,18 +3,12 @@
 //! A step (`NextLevel`) makes each level from the one before. A `Carrier` brings data along, such as values or a table. A
 //! `Visitor` takes each level that is left behind. The walk keeps two levels at a time.
 //!
-//! Makes each level of a walk the whole next level, as the definitions do.
+//! `Uniform` is the step to the whole next level, and `with_cause` serves other steps. The specifications connect the faults of
+//! its walk with the first fault of a channel in the definitions.
 //!
-//! `Uniform` is the step, and `with_cause` serves other steps. The specifications connect the faults of a walk with the first
-//! fault of a channel in the definitions.
-//!
-//! Counts the parts of a level, and of each level to a depth: points, edges, faces, holes, boundary edges, sharp edges and
-//! extraordinary points.
-//!
-//! Finds the part of the mesh on which each point, edge and face of a later level lies.
-//!
-//! That part is the origin: a point, the inside of an edge, or the inside of a face of level 0. Origins carry data of the
-//! mesh, such as materials or selections, to refined levels.
+//! `count_levels` walks to count the parts of each level: points, edges, faces, holes, boundary edges, sharp edges and
+//! extraordinary points. `find_origins` walks to find the origin of each point and face of a later level. An origin is the
+//! part of the mesh on which it lies: a point, the inside of an edge, or the inside of a face of level 0.
 #![tactic(auto)]
 
 mod along;

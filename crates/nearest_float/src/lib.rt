@@ -1,10 +1,7 @@
 //! Converts fractions to the nearest binary64 and binary32 numbers, and such numbers to their exact fractions, in whole numbers only.
 //!
-//! The calls take and return the bits of the numbers. Only `exact_binary64s` takes memory.
-//!
-//! Fills arrays of a caller with the bits of the binary64 or binary32 numbers nearest to fractions.
-//!
-//! No call takes memory, and none returns an error.
+//! The calls take and return the bits of the numbers. `put_binary64` and `put_binary32` fill arrays of a caller. Only
+//! `exact_binary64s` takes memory.
 #![tactic(auto)]
 
 pub mod array_laws;

@@ -1,10 +1,9 @@
 //! Evaluates rows exactly over flat arrays of a caller, and rounds fractions to the nearest doubles or floats.
 //!
-//! Controls may have any number of components. No call takes memory. Ranges of rows are independent, so threads may share them.
+//! Controls may have any number of components. Ranges of rows are independent, so threads may share them.
 //!
-//! Turns doubles or floats of a caller into whole numerators over one denominator: exactly, or rounded to a grid.
-//!
-//! The calls take the bits of the numbers, compute in whole numbers, and write into arrays of the caller. No call takes memory.
+//! The crate also turns doubles or floats of a caller into whole numerators over one denominator: exactly, or rounded to a
+//! grid. These calls take the bits of the numbers. No call of the crate takes memory.
 #![tactic(auto)]
 
 mod amount;

@@ -4,10 +4,8 @@
 //! child faces, and the points of these child faces. Source: the sparse refinement of OpenSubdiv's Vtr layer. The choice of
 //! the present faces is this library's own.
 //!
-//! Keeps the faces of a sparse level in the form in which the program writes them.
-//!
-//! Each face has a kind, its number in the uniform level, and its corners. The points are numbered by first appearance among
-//! the corners.
+//! `SparseFaces` is the form in which the program writes a level. Each face has a kind, its number in the uniform level, and
+//! its corners. The points are numbered by first appearance among the corners.
 #![tactic(auto)]
 
 mod complete;

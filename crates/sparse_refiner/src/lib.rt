@@ -3,10 +3,8 @@
 //! The crate reads the tables of the level, without a map and without a scan. Source: the sparse refinement of OpenSubdiv's
 //! Vtr layer. The choice of the present faces is this library's own.
 //!
-//! Makes the level of a part of the next level from the tables of its parent.
-//!
-//! A part is some child faces and their points. The caller numbers the points and edges of the part and computes the
-//! sharpness of the halves of edges first, with `child_slots`.
+//! `part_level` makes the level of any part of the next level: some child faces and their points. The caller numbers the
+//! points and edges of the part and computes the sharpness of the halves of edges first, with `child_slots`.
 #![tactic(auto)]
 
 mod edges;

@@ -1,10 +1,8 @@
 //! Makes the sparse levels of a walk: the present part of each next level, around the faces that a rule selects.
 //!
 //! `Sparse` is the step. `sparse_levels` returns all sparse levels to a depth in the form in which the program writes them.
-//! Its specifications connect the faults of a walk with the first fault in the definitions.
-//!
-//! Makes the map of the sparse levels up to a depth, for a rule that selects faces. The map finds the leaf that contains a place;
-//! `patch_map` describes it.
+//! `map_sparse` makes the map of the leaves in such a walk; `patch_map` describes it. The specifications connect the faults of
+//! a walk with the first fault in the definitions.
 #![tactic(auto)]
 
 mod growing_map;

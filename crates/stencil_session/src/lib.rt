@@ -2,12 +2,10 @@
 //!
 //! A session has the controls, the value of each point, and marks of the points that moves changed. A move visits only the
 //! rows that have its control. `Session::start` takes all memory: 12 or 20 bytes for each entry of the table, besides the
-//! controls, the values and the marks. No other call takes memory.
+//! controls, the values and the marks. No other call of a session takes memory.
 //!
-//! Marks on the numbers from 0 up to a count, with a fast search for the least marked number.
-//!
-//! `Marks` keeps a binary tree over the numbers: a node is marked if one of its children is. A node takes one byte, and each number needs
-//! fewer than four nodes.
+//! `Marks` marks numbers from 0 up to a count, with a fast search for the least marked number. It keeps a binary tree over the
+//! numbers: a node is marked if one of its children is. A node takes one byte, and each number needs fewer than four nodes.
 #![tactic(auto)]
 
 mod add;

@@ -1,10 +1,10 @@
 //! Writes stencil tables into flat arrays that the caller owns, with exact weights or with weights as floating-point numbers.
 //!
-//! No call takes memory or reports an error. `counts_of` returns the lengths that the arrays need.
+//! `counts_of` returns the lengths that the arrays need. These calls take no memory, and none reports an error.
 //!
-//! Reads, writes, makes and checks stored tables in a caller's memory. A table comes from the bytes of its text or from rows in arrays. A
-//! check compares a text with the table of a mesh in arrays. An error is a `FaultRecord` of `fault_record`; `table_file` defines the
-//! text.
+//! The crate also reads, writes, makes and checks stored tables in a caller's memory. A table comes from the bytes of its text
+//! or from rows in arrays. A check compares a text with the table of a mesh in arrays. An error is a `FaultRecord` of
+//! `fault_record`; `table_file` defines the text.
 #![tactic(auto)]
 
 mod check;
