@@ -1,0 +1,6 @@
+use Rattle.std.proofs.Common.{rules}
+use Rattle.text_pieces.proofs.pieces.Pieces.about.Goals as goal
+
+-- asked for by name, so that a body that breaks it is refused at once
+pub returns : goal.returns
+returns c = search rules
