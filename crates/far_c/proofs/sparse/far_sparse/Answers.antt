@@ -7,7 +7,7 @@ use Rattle.far_c.proofs.sparse.far_sparse.Goals as goal
 pub returns-in-Ok-clause-answer : goal.returns-in-Ok-clause-answer
 returns-in-Ok-clause-answer c =
     sparse-answered c.args.mesh.now c.args.request.now _ c.args.places.now c.put_sparse-done.new.places c.in-Ok.sparse c.deref.result.now c.deref-in-Ok.result.now
-    c.counts_of.result c.put_sparse-done.result c.written.result c.in-Ok.ensures c.deref.ensures.value c.deref-in-Ok.ensures.value c.counts_of.ensures
+    c.sparse_counts_of.result c.put_sparse-done.result c.written.result c.in-Ok.ensures c.deref.ensures.value c.deref-in-Ok.ensures.value c.sparse_counts_of.ensures
     c.put_sparse-done.ensures.long_enough c.put_sparse-done.ensures.written c.put_sparse-done.ensures.kept c.written.ensures.status
 
 pub returns-in-Err-clause-answer : goal.returns-in-Err-clause-answer

@@ -1,7 +1,7 @@
 use Rattle.std.proofs.Common.{◌≡◌, ◌*◌, ◌^◌, ◌≤◌, take}
 use Rattle.std.specs.List.{sum_by}
 use Rattle.level_arrays.specs.SparseFlat.{point_count, face_count, corner_count}
-use Rattle.level_arrays.proofs.sparse_counts.counts_of.Given as goal
+use Rattle.level_arrays.proofs.sparse_counts.sparse_counts_of.Given as goal
 
 -- the counts of the levels so far, which fit 32 bits each
 abbrev pub invariant-loop-level : goal.invariant-loop-level
