@@ -6,8 +6,8 @@ ghost use Rattle.far_engine.specs.MemoryRuns.{RunsInMemory, RunsOverSlices, memo
 ghost use Rattle.far_engine.specs.MemoryWords.{words_of};
 
 use crate::engine::program;
-use crate::far_fault::{FarFault, report, status};
 use crate::memory_words::words_in;
+use far_fault::{FarFault, report, status};
 use memory_streams::{SliceSink, SliceSource};
 use ratio128::Steps;
 use std::alloc::Global;
