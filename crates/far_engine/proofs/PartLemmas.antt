@@ -5,12 +5,11 @@ use Rattle.far_io.specs.declared.source.Source.{Ghosts as Source}
 use Rattle.far_io.specs.declared.source.InputFault.{InputFault}
 use Rattle.far_io.specs.declared.sink.Sink.{Ghosts as Sink}
 use Rattle.subdiv_model.specs.Fault.{Fault, Usage, Read, Long, Obj, Mesh, TooLarge, Overflow, Limit, Place, Table, Differs, Controls, Write, Memory}
-use Rattle.subdiv_model.specs.MeshFault.{first_mesh_fault}
 use Rattle.subdiv_model.specs.ObjMesh.{ObjMesh}
-use Rattle.subdiv_model.specs.ReadObj.{obj_lines, mesh_of_lines}
+use Rattle.subdiv_model.specs.ReadObj.{obj_lines}
 use Rattle.far_model.specs.Command.{FramesOptions, Frames, Stencils, Streams}
 use Rattle.far_model.specs.Frames.{frame_lines}
-use Rattle.far_model.specs.Answer.{answer_of_read, frames_lines, frames_refusal, frames_mesh, rule_of}
+use Rattle.far_model.specs.Answer.{frames_lines, frames_refusal, frames_mesh, rule_of}
 use Rattle.far_fault.specs.View.{fault_of}
 use Rattle.far_fault.specs.declared.fault.FarFault.{FarFault}
 use Rattle.mesh_answers.specs.Refusals.{IsFound, refusal_of_mesh}

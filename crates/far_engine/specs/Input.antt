@@ -7,7 +7,6 @@ use Rattle.far_io.specs.declared.source.InputFault.{InputFault}
 use Rattle.far_io.specs.declared.source.InputFault.TheVariants.{Read as ReadFailed, Long as TooLong, Memory as NoMemory}
 use Rattle.far_model.specs.Command.{Command, Reads, Stored, Makes, Streams}
 use Rattle.subdiv_model.specs.ObjMesh.{ObjMesh}
-use Rattle.subdiv_model.specs.ReadObj.{read_obj_fault, read_obj_mesh}
 use Rattle.subdiv_model.specs.Fault as model
 use Rattle.subdiv_model.specs.Fault.{Fault, Usage, Read, Long, Obj, Write, Memory}
 use Rattle.far_model.specs.Answer.{answer_of_command, byte_limit}
