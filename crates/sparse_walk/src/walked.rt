@@ -33,11 +33,17 @@ impl WalkedSparse {
         requires { (v : ℕ) → v < level.level.point_count → get_or level.complete v false ≡ true }
         ensures { IfOk result (λ start. start ≡ walked (base_of level) []) }
     {
-        let sparse = SparseLevel::base(alloc, level)?;
-        Ok(WalkedSparse {
+        Ok(WalkedSparse::first(alloc, SparseLevel::base(alloc, level)?))
+    }
+
+    // Returns the state at level 0, which has no level before it.
+    fn first(alloc: Global, sparse: SparseLevel) -> WalkedSparse
+        ensures { result ≡ walked sparse [] }
+    {
+        WalkedSparse {
             sparse,
             before: Vec::new(alloc),
-        })
+        }
     }
 
     /// Returns the level that a step made.
