@@ -21,9 +21,8 @@ fn note_point(n: u32, is_listed: &mut Vec<bool>, points: &mut Vec<u32>) -> Resul
     if is_listed[n as usize] {
         return Ok(());
     }
-    points.push(n)?;
     is_listed[n as usize] = true;
-    Ok(())
+    Ok(points.push(n)?)
 }
 
 // Adds those points of a list that are not marked.
