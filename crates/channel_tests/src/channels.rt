@@ -179,14 +179,30 @@ fn compose_by<L: Ledger>(
     Ok(compose_channel(alloc, base, 1, steps)?)
 }
 
+// The row of a face: its denominator and its corners.
+type FaceRow<'a> = (u128, &'a [u32]);
+
+const FACE_ROW: &FaceRow<'static> = &(3, &[0, 1, 2]);
+
+fn face_row() -> &'static FaceRow<'static> {
+    FACE_ROW
+}
+
+// The row of the first face has the corners of the face.
+fn expect_face(rt: &impl Abort, table: &StencilTable)
+    requires { 3 < length table.now.rows }
+{
+    let row = (table.denominator(3), table.row_indices(3));
+    expect_same(rt, &row, face_row(), &"face");
+}
+
 // The table has these numbers of control points, rows and entries, and this greatest denominator. A face has its corners.
 fn expect_table(rt: &impl Abort, table: &StencilTable) {
     let counts = (table.controls(), table.rows(), table.entries());
     expect_same(rt, &counts, &(3, 8, 24), &"counts");
     expect_same(rt, &table.greatest(), &12, &"greatest");
     assert!(rt; 3 < table.rows());
-    let row = (table.denominator(3), table.row_indices(3));
-    expect_same(rt, &row, &(3, [0, 1, 2].as_slice()), &"face");
+    expect_face(rt, table);
 }
 
 fn expect_composed<L: Ledger>(

@@ -65,28 +65,6 @@ fn map_of<L: Ledger>(
     Ok(map_sparse(alloc, level, &rule, 1, steps)?)
 }
 
-// The map of level 0 with the level of a step.
-fn map_with(alloc: Global, base: &SparseLevel, step: &SparseStep) -> Result<PatchMap, Memory>
-    requires { base.now.depth ≡ 0 }
-{
-    let mut map = PatchMap::start(alloc, base)?;
-    map.grow(base, step)?;
-    Ok(map)
-}
-
-// The map of level 0, grown by one step around the features.
-fn grown_from<L: Ledger>(
-    alloc: Global,
-    base: &SparseLevel,
-    steps: &mut Steps<L>,
-) -> Result<PatchMap, Fail>
-    requires { base.now.depth ≡ 0 }
-{
-    let rule = SelectRule::<Feature, _>::new(|facts: &FaceFacts| is_feature(facts));
-    let step = refine_selected(alloc, base, &rule, steps)?;
-    Ok(map_with(alloc, base, &step)?)
-}
-
 // A pair over the size of a grid, on face 0.
 type Pair = (u64, u64, u64);
 
@@ -125,6 +103,45 @@ fn expect_leaves(rt: &impl Abort, map: &PatchMap) {
     for (pair, leaf) in leaves() {
         expect_same(rt, &leaf_at(rt, map, *pair), leaf, pair);
     }
+}
+
+// The map grown by a step has the leaves of the cube.
+fn expect_grown(
+    rt: &impl Abort,
+    map: &mut PatchMap,
+    base: &SparseLevel,
+    step: &SparseStep,
+) -> Result<(), Memory> {
+    map.grow(base, step)?;
+    expect_leaves(rt, map);
+    Ok(())
+}
+
+// The map of level 0 has the leaves of the cube after it grows by a step.
+fn expect_map(
+    rt: &impl Abort,
+    alloc: Global,
+    base: &SparseLevel,
+    step: &SparseStep,
+) -> Result<(), Memory>
+    requires { base.now.depth ≡ 0 }
+{
+    let mut map = PatchMap::start(alloc, base)?;
+    expect_grown(rt, &mut map, base, step)
+}
+
+// A step around the features gives the map of level 0 the leaves of the cube.
+fn expect_growth<L: Ledger>(
+    rt: &impl Abort,
+    alloc: Global,
+    base: &SparseLevel,
+    steps: &mut Steps<L>,
+) -> Result<(), Fail>
+    requires { base.now.depth ≡ 0 }
+{
+    let rule = SelectRule::<Feature, _>::new(|facts: &FaceFacts| is_feature(facts));
+    let step = refine_selected(alloc, base, &rule, steps)?;
+    Ok(expect_map(rt, alloc, base, &step)?)
 }
 
 // Two faces of the cube that share an edge.
@@ -171,7 +188,7 @@ fn expect_steps<L: Ledger>(
 ) -> Result<(), Fail>
     requires { base.now.depth ≡ 0 }
 {
-    expect_leaves(rt, &grown_from(alloc, base, steps)?);
+    expect_growth(rt, alloc, base, steps)?;
     let step = refine_like(alloc, base, chosen(), steps)?;
     Ok(expect_chosen(rt, alloc, base, &step)?)
 }
