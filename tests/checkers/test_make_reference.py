@@ -106,7 +106,7 @@ class MakeReference(unittest.TestCase):
         cls.folder = tempfile.TemporaryDirectory(prefix="reference-")
         cls.top = Path(cls.folder.name)
         copy(cls.top, "crates/far_words/src/*.rt", "docs/help.txt", "bindings/c/advice.c", "include/drillolive.h", "VERSION")
-        copy(cls.top, "crates/subdiv_model/specs/Fault.antt", "crates/fault_record/specs/Table.antt", "bindings/python/**/*.py")
+        copy(cls.top, "crates/subdiv_model/specs/Fault.antt", "crates/array_answers/specs/RecordTable.antt", "bindings/python/**/*.py")
         write(cls.top, FILES)
         make(cls.top)
 

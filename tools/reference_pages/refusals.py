@@ -13,8 +13,8 @@ from .crates import Crate, first_sentence
 from .markdown import code, escaped, escaped_angles, page, table
 from .rattle import doc_of
 
-FAULTS, RECORDS = "crates/subdiv_model/specs/Fault.antt", "crates/fault_record/specs/Table.antt"
-OTHER_RECORDS = "crates/fault_record/specs/Arrays.antt"
+FAULTS, RECORDS = "crates/subdiv_model/specs/Fault.antt", "crates/array_answers/specs/RecordTable.antt"
+OTHER_RECORDS = "crates/array_answers/specs/ArrayRecords.antt"
 ADVICE, HEADER = "bindings/c/advice.c", "include/drillolive.h"
 SIGNATURE = re.compile(r"^abbrev pub (\w+) : (\w+) →")
 EQUATION = re.compile(r"^(\w+) (\w+|\([^)]*\)) =(.*)$")

@@ -23,15 +23,15 @@ use Rattle.mesh_answers.specs.Tracks.{AreRefined}
 use Rattle.mesh_answers.proofs.PointLemmas.{numbers}
 use Rattle.mesh_answers.proofs.PositionLemmas.{point-controls, refined-points}
 use Rattle.far_text.specs.Points.{CanBeWritten}
-use Rattle.level_arrays.specs.Points.{CanBePut}
+use Rattle.mesh_arrays.specs.Points.{CanBePut}
 use Rattle.mesh_arrays.specs.Arrays.{mesh_of_arrays}
 use Rattle.mesh_arrays.specs.Faults.{IsMeshOf}
 use Rattle.mesh_arrays.specs.declared.arrays.MeshArrays.{MeshArrays}
-use Rattle.fault_record.specs.Back.{IsRecordOf}
-use Rattle.fault_record.specs.declared.record.FaultRecord.{FaultRecord}
+use Rattle.array_answers.specs.RecordBack.{IsRecordOf}
+use Rattle.array_answers.specs.declared.record.FaultRecord.{FaultRecord}
 use Rattle.mesh_check.specs.declared.fault.MeshFault.{MeshFault}
 use Rattle.mesh_arrays.specs.declared.fault.ArraysFault.TheVariants as arrays_fault
-use Rattle.fault_record.specs.Arrays.{row}
+use Rattle.array_answers.specs.ArrayRecords.{row}
 use Rattle.array_answers.specs.Refused.{IsRefusal, AreNoMesh}
 use Rattle.array_answers.specs.Faults.{AreListed, AreFaultsOf}
 use Rattle.array_answers.specs.Composed.{ArePointsOf}

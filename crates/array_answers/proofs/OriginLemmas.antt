@@ -8,8 +8,8 @@ use Rattle.mesh_answers.specs.Origins.{AreOriginsOf}
 use Rattle.mesh_answers.specs.Refusals.{IsFound, refusal_of_mesh}
 use Rattle.mesh_arrays.specs.Faults.{IsMeshOf}
 use Rattle.mesh_arrays.specs.declared.arrays.MeshArrays.{MeshArrays}
-use Rattle.fault_record.specs.Back.{IsRecordOf}
-use Rattle.fault_record.specs.declared.record.FaultRecord.{FaultRecord}
+use Rattle.array_answers.specs.RecordBack.{IsRecordOf}
+use Rattle.array_answers.specs.declared.record.FaultRecord.{FaultRecord}
 use Rattle.array_answers.specs.Origins.{AreOriginsOfArrays, IsLevelsRefusal}
 
 -- the mesh is refused

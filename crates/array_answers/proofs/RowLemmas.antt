@@ -15,8 +15,8 @@ use Rattle.mesh_answers.proofs.TextureTableLemmas.{texture-own}
 use Rattle.mesh_arrays.specs.Arrays.{mesh_of_arrays}
 use Rattle.mesh_arrays.specs.Faults.{IsMeshOf}
 use Rattle.mesh_arrays.specs.declared.arrays.MeshArrays.{MeshArrays}
-use Rattle.fault_record.specs.Back.{IsRecordOf}
-use Rattle.fault_record.specs.declared.record.FaultRecord.{FaultRecord}
+use Rattle.array_answers.specs.RecordBack.{IsRecordOf}
+use Rattle.array_answers.specs.declared.record.FaultRecord.{FaultRecord}
 use Rattle.array_answers.specs.Asked.{Rows, TextureRows, rows_asked, texture_asked}
 use Rattle.array_answers.specs.Rows.{AreArrayRows, AreLimitPointRows, ArePointRows, AreRowsComposed, AreRowsFound, AreRowsRefused, AreTextureRows, IsArrayTexture, IsRequestRefused, IsTextureFound, row_faults}
 use Rattle.array_answers.specs.declared.request.RowRequest.{RowRequest}

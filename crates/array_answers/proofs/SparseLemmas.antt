@@ -15,7 +15,7 @@ use Rattle.far_text.specs.Points.{CanBeWritten, IsSamePoint, point_of, points_of
 use Rattle.mesh_answers.specs.SparseLevels.{ArePointsLevels, IsPointsLevel, sparse_position_faults}
 use Rattle.mesh_arrays.specs.Faults.{IsMeshOf}
 use Rattle.mesh_arrays.specs.declared.arrays.MeshArrays.{MeshArrays}
-use Rattle.fault_record.specs.declared.record.FaultRecord.{FaultRecord}
+use Rattle.array_answers.specs.declared.record.FaultRecord.{FaultRecord}
 use Rattle.array_answers.specs.Refused.{IsRefusedBy}
 use Rattle.array_answers.specs.Sparse.{AreSparseIn, AreSparseOf, IsSparseRefused}
 use Rattle.array_answers.specs.declared.sparse.SparseArrays.{SparseArrays}

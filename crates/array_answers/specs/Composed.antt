@@ -5,7 +5,7 @@ use Rattle.mesh_answers.specs.Tables.{IsComposedOf}
 use Rattle.mesh_arrays.specs.Arrays.{mesh_of_arrays}
 use Rattle.mesh_arrays.specs.Faults.{IsMeshOf}
 use Rattle.mesh_arrays.specs.declared.arrays.MeshArrays.{MeshArrays}
-use Rattle.fault_record.specs.declared.record.FaultRecord.{FaultRecord}
+use Rattle.array_answers.specs.declared.record.FaultRecord.{FaultRecord}
 use Rattle.array_answers.specs.Refused.{IsRefusal}
 use Rattle.array_answers.specs.declared.compose.RefinedArrays.{RefinedArrays}
 use Rattle.array_answers.specs.declared.points.RefinedPoints.{RefinedPoints}
@@ -14,7 +14,7 @@ use Rattle.subdiv_model.specs.Channel.{Tables, denominators_after}
 use Rattle.level_topology.specs.Topology.{Topology}
 use Rattle.mesh_answers.specs.Refusals.{refusal_by}
 use Rattle.mesh_answers.specs.Tracks.{AreRefined}
-use Rattle.level_arrays.specs.Points.{CanBePut}
+use Rattle.mesh_arrays.specs.Points.{CanBePut}
 
 -- the arrays are a mesh, and this is its level at the depth with its table
 pub record IsRefinedOf (mesh : MeshArrays) (depth : ℕ) (refined : RefinedArrays) : Type 0 where

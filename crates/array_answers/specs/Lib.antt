@@ -6,3 +6,10 @@ pub mod Rows
 pub mod Origins
 pub mod Faults
 pub mod Sparse
+pub mod RecordTable
+pub mod ArrayRecords
+pub mod RecordRange
+pub mod RecordBack
+pub mod RecordNamed
+pub mod RecordLines
+pub mod MeshFaults

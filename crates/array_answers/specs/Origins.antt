@@ -7,7 +7,7 @@ use Rattle.mesh_answers.specs.Origins.{AreOriginsOf}
 use Rattle.mesh_arrays.specs.Arrays.{mesh_of_arrays}
 use Rattle.mesh_arrays.specs.Faults.{IsMeshOf}
 use Rattle.mesh_arrays.specs.declared.arrays.MeshArrays.{MeshArrays}
-use Rattle.fault_record.specs.declared.record.FaultRecord.{FaultRecord}
+use Rattle.array_answers.specs.declared.record.FaultRecord.{FaultRecord}
 use Rattle.array_answers.specs.Refused.{IsRefusal}
 
 -- the arrays are a mesh that is not refused at the depth, and these are the origins of its level there

@@ -7,9 +7,9 @@ use Rattle.mesh_arrays.specs.Faults.{IsArraysFault, IsMeshOf}
 use Rattle.mesh_arrays.specs.declared.arrays.MeshArrays.{MeshArrays}
 use Rattle.mesh_arrays.specs.declared.fault.ArraysFault.{ArraysFault}
 use Rattle.mesh_arrays.specs.declared.fault.ArraysFault.TheVariants as arrays
-use Rattle.fault_record.specs.Arrays.{row, record_of_bad_part}
-use Rattle.fault_record.specs.Back.{IsRecordOf}
-use Rattle.fault_record.specs.declared.record.FaultRecord.{FaultRecord}
+use Rattle.array_answers.specs.ArrayRecords.{row, record_of_bad_part}
+use Rattle.array_answers.specs.RecordBack.{IsRecordOf}
+use Rattle.array_answers.specs.declared.record.FaultRecord.{FaultRecord}
 use Rattle.mesh_answers.specs.Refusals.{IsFound, refusal_by}
 
 -- the faults of the options and tags of arrays come after the faults of a part

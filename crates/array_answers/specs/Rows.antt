@@ -15,8 +15,8 @@ use Rattle.mesh_answers.specs.Textures.{IsTextureTable, IsTextureWith, IsWithout
 use Rattle.mesh_arrays.specs.Arrays.{mesh_of_arrays}
 use Rattle.mesh_arrays.specs.Faults.{IsMeshOf}
 use Rattle.mesh_arrays.specs.declared.arrays.MeshArrays.{MeshArrays}
-use Rattle.fault_record.specs.Arrays.{row}
-use Rattle.fault_record.specs.declared.record.FaultRecord.{FaultRecord}
+use Rattle.array_answers.specs.ArrayRecords.{row}
+use Rattle.array_answers.specs.declared.record.FaultRecord.{FaultRecord}
 use Rattle.array_answers.specs.Asked.{Rows, PointRows, LimitPointRows, PatchRows, TextureRows, rows_asked, texture_asked}
 use Rattle.array_answers.specs.Refused.{AreNoMesh, IsRefusedBy}
 use Rattle.array_answers.specs.declared.request.RowRequest.{RowRequest}

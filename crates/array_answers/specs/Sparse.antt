@@ -7,8 +7,8 @@ use Rattle.mesh_answers.specs.SparseLevels.{ArePointsLevels, sparse_position_fau
 use Rattle.mesh_arrays.specs.Arrays.{mesh_of_arrays}
 use Rattle.mesh_arrays.specs.Faults.{IsMeshOf}
 use Rattle.mesh_arrays.specs.declared.arrays.MeshArrays.{MeshArrays}
-use Rattle.level_arrays.specs.SparsePlaces.{CanLevelBePut}
-use Rattle.fault_record.specs.declared.record.FaultRecord.{FaultRecord}
+use Rattle.mesh_arrays.specs.SparsePlaces.{CanLevelBePut}
+use Rattle.array_answers.specs.declared.record.FaultRecord.{FaultRecord}
 use Rattle.array_answers.specs.Refused.{AreNoMesh, IsRefusedBy}
 use Rattle.array_answers.specs.Rows.{bad_request}
 use Rattle.array_answers.specs.declared.sparse.SparseArrays.{SparseArrays}

@@ -3,10 +3,10 @@
 ghost use Rattle.std.specs.Prelude.{◌≡◌, MatchResult};
 ghost use Rattle.array_answers.specs.Faults.{AreListed, AreFaultsOf};
 ghost use Rattle.array_answers.specs.Refused.{AreNoMesh};
-ghost use Rattle.fault_record.specs.Arrays.{row};
+ghost use Rattle.array_answers.specs.ArrayRecords.{row};
 
+use crate::record::FaultRecord;
 use crate::refused::record_of_arrays;
-use fault_record::FaultRecord;
 use mesh_arrays::{ArraysFault, MeshArrays, mesh_of_arrays};
 use mesh_check::{MeshFault, mesh_faults};
 use raw_mesh::RawMesh;

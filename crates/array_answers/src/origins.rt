@@ -3,8 +3,9 @@
 ghost use Rattle.std.specs.Prelude.{◌≡◌, ◌<◌, ◌≤◌};
 ghost use Rattle.array_answers.specs.Origins.{AreArrayOrigins};
 
+use crate::record::FaultRecord;
+use crate::record_table::record_of;
 use crate::refused::{bad_depth, record_of_arrays};
-use fault_record::{FaultRecord, record_of};
 use level_walk::Origins;
 use mesh_answers::origins;
 use mesh_arrays::{MeshArrays, mesh_of_arrays};

@@ -3,10 +3,11 @@
 ghost use Rattle.std.specs.Prelude.{◌≡◌, ◌<◌, ◌≤◌, ℕ};
 ghost use Rattle.array_answers.specs.Composed.{ArePointsFound};
 
+use crate::record::FaultRecord;
+use crate::record_table::record_of;
 use crate::refused::{bad_depth, record_of_arrays};
 use channel_refine::evaluate;
 use far_fault::FarFault;
-use fault_record::{FaultRecord, record_of};
 use mesh_answers::compose;
 use mesh_arrays::{MeshArrays, mesh_of_arrays};
 use ratio128::{Point3, Steps, Valued};

@@ -3,10 +3,11 @@
 ghost use Rattle.std.specs.Prelude.{◌≡◌};
 ghost use Rattle.array_answers.specs.Refused as spec;
 ghost use Rattle.array_answers.specs.Rows.{bad_request};
-ghost use Rattle.fault_record.specs.Arrays.{row};
+ghost use Rattle.array_answers.specs.ArrayRecords.{row};
 
+use crate::record::{BAD_ARGUMENT, BAD_ARRAYS, FaultRecord};
+use crate::record_table::record_of;
 use far_fault::FarFault;
-use fault_record::{BAD_ARGUMENT, BAD_ARRAYS, FaultRecord, record_of};
 use mesh_arrays::ArraysFault;
 
 // A record with the status of refused arrays.

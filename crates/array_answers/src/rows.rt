@@ -6,12 +6,13 @@ ghost use Rattle.array_answers.specs.Asked.{AreInRange, LimitPointRows, PatchRow
 ghost use Rattle.array_answers.specs.Rows.{AreArrayRows, AreRowsComposed, AreRowsFound, IsRequestRefused};
 ghost use Rattle.array_answers.specs.View.{rows_of_code};
 
+use crate::record::FaultRecord;
+use crate::record_table::record_of;
 use crate::refused::{bad_request, record_of_arrays};
 use crate::request::{AskedRows, RowRequest, asked_rows};
 use crate::textures::texture_of_mesh;
 use channel_refine::ComposedChannel;
 use far_words::{PatchOptions, Uv};
-use fault_record::{FaultRecord, record_of};
 use mesh_answers::{ComposedTexture, compose, compose_limits, compose_patch};
 use mesh_arrays::{MeshArrays, mesh_of_arrays};
 use ratio128::Steps;

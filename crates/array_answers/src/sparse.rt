@@ -7,9 +7,10 @@ ghost use Rattle.array_answers.specs.Sparse.{AreSparseFound, AreSparseIn, AreSpa
 ghost use Rattle.array_answers.specs.Refused.{IsRefusedBy};
 ghost use Rattle.mesh_answers.specs.SparseLevels.{sparse_position_faults};
 
+use crate::record::FaultRecord;
+use crate::record_table::record_of;
 use crate::refused::{bad_request, record_of_arrays};
 use far_words::{Select, SparseOptions, SparseUv};
-use fault_record::{FaultRecord, record_of};
 use mesh_answers::sparse_points;
 use mesh_arrays::{MeshArrays, mesh_of_arrays};
 use ratio128::{Point3, Steps};

@@ -6,10 +6,11 @@ ghost use Rattle.mesh_answers.specs.Textures.{IsTextureWith};
 ghost use Rattle.array_answers.specs.Asked.{TextureRows};
 ghost use Rattle.array_answers.specs.Rows.{AreRowsRefused, IsArrayTexture, IsRequestRefused, IsTextureFound};
 
+use crate::record::FaultRecord;
+use crate::record_table::record_of;
 use crate::refused::{bad_request, record_of_arrays};
 use crate::request::uv_asked;
 use far_words::Uv;
-use fault_record::{FaultRecord, record_of};
 use mesh_answers::{ComposedTexture, compose_texture};
 use mesh_arrays::{MeshArrays, mesh_of_arrays};
 use ratio128::Steps;

@@ -1,10 +1,8 @@
 //! Levels, tables and points of meshes in arrays.
 
 use crate::cages::{cube, faces};
-use array_answers::{refine_arrays, refine_points};
-use fault_record::FaultRecord;
-use level_arrays::{LevelCounts, LevelPlaces, put_level};
-use mesh_arrays::MeshArrays;
+use array_answers::{FaultRecord, refine_arrays, refine_points};
+use mesh_arrays::{LevelCounts, LevelPlaces, MeshArrays, put_level};
 use ratio128::{Frac, Point3, Valued, lowest};
 use std::alloc::Global;
 use table_arrays::TableCounts;
@@ -13,7 +11,7 @@ use table_arrays::TableCounts;
 fn refined_counts(alloc: Global) -> Result<(LevelCounts, TableCounts), FaultRecord> {
     let refined = refine_arrays(alloc, cube(), 1)?;
     Ok((
-        level_arrays::counts_of(&refined.composed.level),
+        mesh_arrays::level_counts_of(&refined.composed.level),
         table_arrays::counts_of(&refined.composed.table),
     ))
 }

@@ -1,4 +1,4 @@
-//! Tests the crates that take a mesh from a caller's arrays and put answers into them.
+//! Tests the crates that read and fill a caller's arrays: meshes and answers, numbers, points and rows, records of faults, and streams.
 #![tactic(auto)]
 
 #[cfg(test)]
@@ -6,14 +6,28 @@ mod answers;
 #[cfg(test)]
 mod cages;
 #[cfg(test)]
+mod fault_records;
+#[cfg(test)]
 mod mesh_faults;
 #[cfg(test)]
 mod meshes;
 #[cfg(test)]
+mod nearest;
+#[cfg(test)]
 mod origins;
 #[cfg(test)]
+mod points;
+#[cfg(test)]
 mod requests;
+#[cfg(test)]
+mod rows;
+#[cfg(test)]
+mod scales;
 #[cfg(test)]
 mod sparse;
 #[cfg(test)]
 mod stored;
+#[cfg(test)]
+mod streams;
+#[cfg(test)]
+mod words;

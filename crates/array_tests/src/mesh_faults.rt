@@ -1,8 +1,7 @@
 //! All faults of a mesh in arrays.
 
 use crate::cages::faces;
-use array_answers::faults_of_arrays;
-use fault_record::FaultRecord;
+use array_answers::{FaultRecord, faults_of_arrays};
 use mesh_check::MeshFault;
 use std::alloc::Global;
 

@@ -1,8 +1,7 @@
 //! The parts of meshes in arrays on which their levels lie.
 
 use crate::cages::triangle;
-use array_answers::origins_of_arrays;
-use fault_record::FaultRecord;
+use array_answers::{FaultRecord, origins_of_arrays};
 use level_walk::{OriginCounts, OriginPlaces, origin_counts_of, put_origins};
 use std::alloc::Global;
 

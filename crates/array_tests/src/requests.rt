@@ -1,11 +1,9 @@
 //! Requests for rows of meshes in arrays and for their texture.
 
 use crate::cages::cube;
-use array_answers::{RowRequest, rows_of_arrays, texture_of_arrays};
-use fault_record::{BAD_ARGUMENT, FaultRecord};
+use array_answers::{BAD_ARGUMENT, FaultRecord, RowRequest, rows_of_arrays, texture_of_arrays};
 use flat_arrays::Wide;
-use level_arrays::LevelCounts;
-use mesh_arrays::{MeshArrays, WideValue};
+use mesh_arrays::{LevelCounts, MeshArrays, WideValue};
 use ratio128::Point2;
 use std::alloc::Global;
 use table_arrays::TableCounts;
@@ -116,7 +114,7 @@ fn texture_of_cube(alloc: Global) -> Result<Texture, FaultRecord> {
     let found = texture_of_arrays(alloc, &unfolded_cube(), 2, 1)?;
     let texture = &found.texture;
     Ok((
-        level_arrays::counts_of(&texture.level),
+        mesh_arrays::level_counts_of(&texture.level),
         table_arrays::counts_of(&texture.table),
         found.common,
         texture.values.first().copied(),

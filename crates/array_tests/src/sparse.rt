@@ -1,10 +1,9 @@
 //! The sparse levels of a mesh in arrays.
 
 use crate::cages::{MINUS_ONE, triangle};
-use array_answers::{SparseRequest, sparse_of_arrays};
-use fault_record::FaultRecord;
+use array_answers::{FaultRecord, SparseRequest, sparse_of_arrays};
 use flat_arrays::Wide;
-use level_arrays::{SparseCounts, SparsePlaces, put_sparse, sparse_counts_of};
+use mesh_arrays::{SparseCounts, SparsePlaces, put_sparse, sparse_counts_of};
 use std::alloc::Global;
 
 const ZERO: Wide = Wide { low: 0, high: 0 };

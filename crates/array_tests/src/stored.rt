@@ -1,7 +1,7 @@
 //! Stored tables: read, written from rows in arrays, and compared with a mesh.
 
 use crate::cages::{ONE, cube};
-use fault_record::{BAD_ARRAYS, FaultRecord};
+use array_answers::{BAD_ARRAYS, FaultRecord};
 use flat_arrays::Wide;
 use std::alloc::Global;
 use table_arrays::{

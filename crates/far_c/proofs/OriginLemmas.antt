@@ -9,7 +9,7 @@ use Rattle.level_walk.specs.declared.origin_places.OriginCounts.{OriginCounts}
 use Rattle.level_walk.specs.declared.origin_places.OriginPlaces.{OriginPlaces}
 use Rattle.mesh_arrays.specs.Arrays.{mesh_of_arrays}
 use Rattle.mesh_arrays.specs.declared.arrays.MeshArrays.{MeshArrays}
-use Rattle.fault_record.specs.declared.record.FaultRecord.{FaultRecord}
+use Rattle.array_answers.specs.declared.record.FaultRecord.{FaultRecord}
 use Rattle.array_answers.specs.Origins.{AreOriginsOfArrays, IsLevelsRefusal}
 use Rattle.far_c.specs.Origins.{AnswersOrigins}
 use Rattle.far_c.proofs.RefusalLemmas.{refusal-status}

@@ -6,8 +6,8 @@ use Rattle.far_model.specs.Command.{SparseOptions}
 use Rattle.mesh_arrays.specs.declared.arrays.MeshArrays.{MeshArrays}
 use Rattle.mesh_arrays.specs.declared.fault.ArraysFault.{ArraysFault}
 use Rattle.mesh_arrays.specs.declared.fault.ArraysFault.TheVariants as arrays
-use Rattle.fault_record.specs.declared.record.FaultRecord.{FaultRecord}
-use Rattle.fault_record.proofs.StatusLemmas.{part-status, record-status}
+use Rattle.array_answers.specs.declared.record.FaultRecord.{FaultRecord}
+use Rattle.array_answers.proofs.RecordStatusLemmas.{part-status, record-status}
 use Rattle.array_answers.specs.Asked.{Rows}
 use Rattle.array_answers.specs.Refused.{AreNoMesh, IsRefusedBy, IsRefusal, record_of_arrays, bad_depth}
 use Rattle.array_answers.specs.Rows as rows

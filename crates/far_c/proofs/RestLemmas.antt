@@ -1,8 +1,8 @@
 -- Arrays that a call does not write keep what stands behind any places.
 use Rattle.std.proofs.Common.{refl}
-use Rattle.level_arrays.specs.Places as level
-use Rattle.level_arrays.specs.declared.counts.LevelCounts.{LevelCounts}
-use Rattle.level_arrays.specs.declared.places.LevelPlaces.{LevelPlaces}
+use Rattle.mesh_arrays.specs.Places as level
+use Rattle.mesh_arrays.specs.declared.level_counts.LevelCounts.{LevelCounts}
+use Rattle.mesh_arrays.specs.declared.level_places.LevelPlaces.{LevelPlaces}
 use Rattle.table_arrays.specs.Places as table
 use Rattle.table_arrays.specs.declared.places.TableCounts.{TableCounts}
 use Rattle.table_arrays.specs.declared.places.ExactPlaces.{ExactPlaces}

@@ -10,11 +10,11 @@ use Rattle.sparse_level.specs.declared.values.SparseValues.{SparseValues}
 use Rattle.mesh_answers.specs.SparseLevels.{written_denominators}
 use Rattle.mesh_arrays.specs.Arrays.{mesh_of_arrays}
 use Rattle.mesh_arrays.specs.declared.arrays.MeshArrays.{MeshArrays}
-use Rattle.level_arrays.specs.SparseFlat.{denominators_of, with_front}
-use Rattle.level_arrays.specs.SparsePlaces.{counts_of, are_long_enough, IsWritten}
-use Rattle.level_arrays.specs.declared.sparse_counts.SparseCounts.{SparseCounts}
-use Rattle.level_arrays.specs.declared.sparse_places.SparsePlaces.{SparsePlaces}
-use Rattle.fault_record.specs.declared.record.FaultRecord.{FaultRecord}
+use Rattle.mesh_arrays.specs.SparseFlat.{denominators_of, with_front}
+use Rattle.mesh_arrays.specs.SparsePlaces.{counts_of, are_long_enough, IsWritten}
+use Rattle.mesh_arrays.specs.declared.sparse_counts.SparseCounts.{SparseCounts}
+use Rattle.mesh_arrays.specs.declared.sparse_places.SparsePlaces.{SparsePlaces}
+use Rattle.array_answers.specs.declared.record.FaultRecord.{FaultRecord}
 use Rattle.array_answers.specs.Sparse.{AreSparseAsked, AreSparseIn, IsSparseRefused, sparse_asked}
 use Rattle.array_answers.specs.declared.sparse.SparseArrays.{SparseArrays}
 use Rattle.array_answers.specs.declared.sparse.SparseRequest.{SparseRequest}

@@ -11,13 +11,13 @@ use Rattle.nearest_float.specs.NearestArrays.{AreNearest}
 use Rattle.flat_arrays.specs.declared.wide.Wide.{Wide}
 use Rattle.mesh_arrays.specs.Arrays.{mesh_of_arrays}
 use Rattle.mesh_arrays.specs.declared.arrays.MeshArrays.{MeshArrays}
-use Rattle.fault_record.specs.declared.record.FaultRecord.{FaultRecord}
+use Rattle.array_answers.specs.declared.record.FaultRecord.{FaultRecord}
 use Rattle.table_arrays.specs.Places as table
 use Rattle.table_arrays.specs.declared.places.TableCounts.{TableCounts}
-use Rattle.level_arrays.specs.Places as level
-use Rattle.level_arrays.specs.declared.counts.LevelCounts.{LevelCounts}
-use Rattle.level_arrays.specs.declared.places.LevelPlaces.{LevelPlaces}
-use Rattle.level_arrays.specs.Points.{coordinates, all_denominators}
+use Rattle.mesh_arrays.specs.Places as level
+use Rattle.mesh_arrays.specs.declared.level_counts.LevelCounts.{LevelCounts}
+use Rattle.mesh_arrays.specs.declared.level_places.LevelPlaces.{LevelPlaces}
+use Rattle.mesh_arrays.specs.Points.{coordinates, all_denominators}
 use Rattle.array_answers.specs.Asked.{rows_asked}
 use Rattle.array_answers.specs.Rows.{AreRowsAsked, IsRequestRefused}
 use Rattle.array_answers.specs.Composed.{IsRefinedOf, ArePointsOf}

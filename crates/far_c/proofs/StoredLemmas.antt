@@ -5,7 +5,7 @@ use Rattle.std.proofs.lemmas.List.{take_all, drop_all}
 use Rattle.subdiv_model.specs.Table.{Table}
 use Rattle.subdiv_model.specs.TableText.{text_of_table}
 use Rattle.memory_streams.specs.Text.{IsStored, count_of}
-use Rattle.fault_record.specs.declared.record.FaultRecord.{FaultRecord}
+use Rattle.array_answers.specs.declared.record.FaultRecord.{FaultRecord}
 use Rattle.table_arrays.specs.Rows.{IsTableOf}
 use Rattle.table_arrays.specs.declared.exact_rows.ExactRows.{ExactRows}
 use Rattle.far_c.specs.Stored.{AnswersWrite, IsCut, IsWritten}

@@ -4,11 +4,11 @@ use Rattle.std.proofs.lemmas.Bool.{leb-false}
 use Rattle.flat_arrays.specs.Words.{integer_of}
 use Rattle.flat_arrays.specs.declared.wide.Wide.{Wide}
 use Rattle.mesh_arrays.specs.declared.arrays.MeshArrays.{MeshArrays}
-use Rattle.fault_record.specs.declared.record.FaultRecord.{FaultRecord}
-use Rattle.level_arrays.specs.Places as level
-use Rattle.level_arrays.specs.declared.counts.LevelCounts.{LevelCounts}
-use Rattle.level_arrays.specs.declared.places.LevelPlaces.{LevelPlaces}
-use Rattle.level_arrays.specs.Values.{all_value_numerators}
+use Rattle.array_answers.specs.declared.record.FaultRecord.{FaultRecord}
+use Rattle.mesh_arrays.specs.Places as level
+use Rattle.mesh_arrays.specs.declared.level_counts.LevelCounts.{LevelCounts}
+use Rattle.mesh_arrays.specs.declared.level_places.LevelPlaces.{LevelPlaces}
+use Rattle.mesh_arrays.specs.Values.{all_value_numerators}
 use Rattle.array_answers.specs.Asked.{texture_asked}
 use Rattle.array_answers.specs.Rows.{IsRequestRefused, IsTextureAsked}
 use Rattle.array_answers.specs.declared.textures.TextureArrays.{TextureArrays}

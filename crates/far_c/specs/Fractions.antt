@@ -6,8 +6,8 @@ use Rattle.row_arrays.specs.Fractions.{fraction_fault, fractions_of}
 use Rattle.row_arrays.specs.declared.fraction_fault.FractionFault.{FractionFault}
 use Rattle.row_arrays.specs.declared.fraction_fault.FractionFault.TheVariants.{Short, Denominator, Numerator}
 use Rattle.row_arrays.specs.declared.fractions.FractionArrays.{FractionArrays}
-use Rattle.fault_record.specs.Arrays.{row}
-use Rattle.fault_record.specs.declared.record.FaultRecord.{FaultRecord}
+use Rattle.array_answers.specs.ArrayRecords.{row}
+use Rattle.array_answers.specs.declared.record.FaultRecord.{FaultRecord}
 use Rattle.far_c.specs.Status.{AnswersFault}
 
 -- status, kind and first number; a place is counted from 0

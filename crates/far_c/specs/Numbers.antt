@@ -7,8 +7,8 @@ use Rattle.row_arrays.specs.Scale.{AreScaled}
 use Rattle.row_arrays.specs.ScaleFaults.{IsScaleFault}
 use Rattle.row_arrays.specs.Grid.{AreRounded, IsRoundFault}
 use Rattle.row_arrays.specs.declared.number_fault.NumberFault.{NumberFault}
-use Rattle.fault_record.specs.Arrays.{row, record_of_bad_number}
-use Rattle.fault_record.specs.declared.record.FaultRecord.{FaultRecord}
+use Rattle.array_answers.specs.ArrayRecords.{row, record_of_bad_number}
+use Rattle.array_answers.specs.declared.record.FaultRecord.{FaultRecord}
 use Rattle.far_c.specs.Status.{IsStatus}
 
 -- the array has a place for each number, a number is refused for this fault, and this is the record

@@ -1,8 +1,8 @@
 -- The record of each fault of rows in arrays.
 use Rattle.row_arrays.specs.declared.rows.RowFault.{RowFault}
 use Rattle.row_arrays.specs.declared.rows.RowFault.TheVariants.{Range, Short, Row, Overflow}
-use Rattle.fault_record.specs.Arrays.{row}
-use Rattle.fault_record.specs.declared.record.FaultRecord.{FaultRecord}
+use Rattle.array_answers.specs.ArrayRecords.{row}
+use Rattle.array_answers.specs.declared.record.FaultRecord.{FaultRecord}
 
 -- status, kind and first number; a row is counted from 0
 abbrev pub record_of_row_fault : RowFault → FaultRecord

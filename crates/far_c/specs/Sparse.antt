@@ -8,11 +8,11 @@ use Rattle.flat_arrays.specs.Words.{natural_of}
 use Rattle.mesh_answers.specs.SparseLevels.{written_denominators}
 use Rattle.mesh_arrays.specs.Arrays.{mesh_of_arrays}
 use Rattle.mesh_arrays.specs.declared.arrays.MeshArrays.{MeshArrays}
-use Rattle.level_arrays.specs.SparseFlat.{with_front}
-use Rattle.level_arrays.specs.SparsePlaces.{counts_of, are_long_enough, IsWritten}
-use Rattle.level_arrays.specs.declared.sparse_counts.SparseCounts.{SparseCounts}
-use Rattle.level_arrays.specs.declared.sparse_places.SparsePlaces.{SparsePlaces}
-use Rattle.fault_record.specs.declared.record.FaultRecord.{FaultRecord}
+use Rattle.mesh_arrays.specs.SparseFlat.{with_front}
+use Rattle.mesh_arrays.specs.SparsePlaces.{counts_of, are_long_enough, IsWritten}
+use Rattle.mesh_arrays.specs.declared.sparse_counts.SparseCounts.{SparseCounts}
+use Rattle.mesh_arrays.specs.declared.sparse_places.SparsePlaces.{SparsePlaces}
+use Rattle.array_answers.specs.declared.record.FaultRecord.{FaultRecord}
 use Rattle.array_answers.specs.Sparse.{AreSparseAsked, IsSparseRefused, sparse_asked}
 use Rattle.array_answers.specs.declared.sparse.SparseArrays.{SparseArrays}
 use Rattle.array_answers.specs.declared.sparse.SparseRequest.{SparseRequest}

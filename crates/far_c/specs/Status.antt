@@ -1,6 +1,6 @@
 -- The status of a call.
 use Rattle.std.specs.Prelude.{ℕ, ◌≡◌, ◌≤◌, ◌<◌, ◌⊎◌, Option, MatchOption}
-use Rattle.fault_record.specs.declared.record.FaultRecord.{FaultRecord}
+use Rattle.array_answers.specs.declared.record.FaultRecord.{FaultRecord}
 
 -- 0 if the call succeeded, 1 if an array is too short, else the status of the fault, which is at least 2
 abbrev pub IsStatus : ℕ → Type 0 → Type 0 → (FaultRecord → Type 0) → FaultRecord → Type 0

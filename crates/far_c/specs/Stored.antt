@@ -4,7 +4,7 @@ use Rattle.subdiv_model.specs.Table.{Table}
 use Rattle.subdiv_model.specs.TableText.{text_of_table}
 use Rattle.memory_streams.specs.Text.{count_of}
 use Rattle.mesh_arrays.specs.declared.arrays.MeshArrays.{MeshArrays}
-use Rattle.fault_record.specs.declared.record.FaultRecord.{FaultRecord}
+use Rattle.array_answers.specs.declared.record.FaultRecord.{FaultRecord}
 use Rattle.table_file.specs.Read.{TableRead}
 use Rattle.table_arrays.specs.Places as table
 use Rattle.table_arrays.specs.declared.places.TableCounts.{TableCounts}

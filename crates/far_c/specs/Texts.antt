@@ -7,8 +7,8 @@ use Rattle.mesh_arrays.specs.Written.{counts_of, are_long_enough, AreOptionsOf, 
 use Rattle.mesh_arrays.specs.declared.places.MeshCounts.{MeshCounts}
 use Rattle.mesh_arrays.specs.declared.places.MeshOptions.{MeshOptions}
 use Rattle.mesh_arrays.specs.declared.places.MeshPlaces.{MeshPlaces}
-use Rattle.fault_record.specs.Back.{IsRecordOf}
-use Rattle.fault_record.specs.declared.record.FaultRecord.{FaultRecord}
+use Rattle.array_answers.specs.RecordBack.{IsRecordOf}
+use Rattle.array_answers.specs.declared.record.FaultRecord.{FaultRecord}
 use Rattle.far_c.specs.Status.{IsStatus}
 
 -- the greatest number of bytes of a text

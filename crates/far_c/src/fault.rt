@@ -2,10 +2,10 @@
 
 ghost use Rattle.std.specs.Prelude.{◌≤◌, []};
 ghost use Rattle.subdiv_model.specs.Fault.{Fault, fault_line};
-ghost use Rattle.fault_record.specs.Back.{IsRecordOf, IsOfNone};
-ghost use Rattle.fault_record.specs.Lines.{IsPut};
+ghost use Rattle.array_answers.specs.RecordBack.{IsRecordOf, IsOfNone};
+ghost use Rattle.array_answers.specs.RecordLines.{IsPut};
 
-use fault_record::{FaultRecord, put_line};
+use array_answers::{FaultRecord, put_line};
 
 /// Writes as much of the line of a fault as fits into `out`, and returns the length of the whole line. It returns 0 for a record that no
 /// fault of a run has.

@@ -5,8 +5,7 @@ ghost use Rattle.far_c.specs.Faults.{AnswersFaults};
 ghost use Rattle.far_c.specs.Status.{IsKeptUnlessRefused, IsKeptIfRefused};
 
 use crate::status::written;
-use array_answers::faults_of_arrays;
-use fault_record::{FaultRecord, put_mesh_faults};
+use array_answers::{FaultRecord, faults_of_arrays, put_mesh_faults};
 use mesh_arrays::MeshArrays;
 use std::alloc::Global;
 

@@ -6,7 +6,7 @@ ghost use Rattle.far_c.specs.Fractions.{AnswersFractions, record_of_fraction_fau
 ghost use Rattle.far_c.specs.Status.{IsKeptIfDone};
 
 use crate::status::record;
-use fault_record::{BAD_ARRAYS, BAD_NUMBER, DONE, FaultRecord, TOO_SHORT};
+use array_answers::{BAD_ARRAYS, BAD_NUMBER, DONE, FaultRecord, TOO_SHORT};
 use row_arrays::{FractionArrays, FractionFault, round_fractions32, round_fractions64};
 
 // The record of fractions that cannot be rounded.

@@ -2,15 +2,13 @@
 
 ghost use Rattle.std.specs.Prelude.{◌≡◌};
 ghost use Rattle.flat_arrays.specs.Places.{IsSameArray};
-ghost use Rattle.level_arrays.specs.Places.{IsRestKept};
+ghost use Rattle.mesh_arrays.specs.Places.{IsRestKept};
 ghost use Rattle.far_c.specs.Answers.{AnswersLevel};
 ghost use Rattle.far_c.specs.Status.{IsKeptUnlessRefused, IsKeptIfRefused};
 
 use crate::status::written;
-use array_answers::refine_arrays;
-use fault_record::FaultRecord;
-use level_arrays::{LevelCounts, LevelPlaces, counts_of, put_level};
-use mesh_arrays::MeshArrays;
+use array_answers::{FaultRecord, refine_arrays};
+use mesh_arrays::{LevelCounts, LevelPlaces, MeshArrays, level_counts_of, put_level};
 use std::alloc::Global;
 
 /// Writes the level of a mesh at `depth`, at most 10, and its counts. The level has the size and the corners of each face, the ends of each
@@ -34,7 +32,7 @@ pub extern "C" fn far_level(
 {
     match refine_arrays(alloc, mesh, depth) {
         Ok(refined) => {
-            *counts = counts_of(&refined.composed.level);
+            *counts = level_counts_of(&refined.composed.level);
             let done = put_level(&refined.composed.level, places);
             // The prover proves a named drop once for each type.
             drop(refined);

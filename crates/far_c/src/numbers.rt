@@ -3,11 +3,11 @@
 ghost use Rattle.std.specs.Prelude.{◌≡◌, ◌≤◌, length, drop};
 ghost use Rattle.nearest_float.specs.Binary.{binary32, binary64};
 ghost use Rattle.flat_arrays.specs.Words.{natural_of};
-ghost use Rattle.fault_record.specs.Arrays.{record_of_bad_number, row};
+ghost use Rattle.array_answers.specs.ArrayRecords.{record_of_bad_number, row};
 ghost use Rattle.far_c.specs.Numbers.{AnswersRounding, AnswersScale};
 ghost use Rattle.far_c.specs.Status.{IsKeptUnlessDone, IsKeptUnlessRefused};
 
-use fault_record::{BAD_ARGUMENT, DONE, FaultRecord, TOO_SHORT};
+use array_answers::{BAD_ARGUMENT, DONE, FaultRecord, TOO_SHORT};
 use flat_arrays::Wide;
 use row_arrays::{NumberFault, round_binary32s, round_binary64s, scale_binary32s, scale_binary64s};
 

@@ -6,8 +6,7 @@ ghost use Rattle.far_c.specs.Origins.{AnswersOrigins};
 ghost use Rattle.far_c.specs.Status.{IsKeptUnlessRefused, IsKeptIfRefused};
 
 use crate::status::written;
-use array_answers::origins_of_arrays;
-use fault_record::FaultRecord;
+use array_answers::{FaultRecord, origins_of_arrays};
 use level_walk::{OriginCounts, OriginPlaces, origin_counts_of, put_origins};
 use mesh_arrays::MeshArrays;
 use std::alloc::Global;

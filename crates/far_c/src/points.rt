@@ -4,16 +4,14 @@ ghost use Rattle.std.specs.Prelude.{◌≡◌, ◌*◌, ◌≤◌, length, nat_l
 ghost use Rattle.std.specs.List.{All};
 ghost use Rattle.nearest_float.specs.Binary.{binary32, binary64};
 ghost use Rattle.nearest_float.specs.NearestArrays.{AreNearest};
-ghost use Rattle.level_arrays.specs.Points.{CanBePut, coordinates};
+ghost use Rattle.mesh_arrays.specs.Points.{CanBePut, coordinates};
 ghost use Rattle.far_c.specs.Answers.{AnswersExactPoints, AnswersPoints, AreExactPoints, are_exact_long_enough};
 ghost use Rattle.far_c.specs.Status.{IsKeptUnlessDone, IsKeptUnlessRefused, IsKeptIfRefused};
 
 use crate::status::written;
-use array_answers::{RefinedPoints, refine_points};
-use fault_record::FaultRecord;
+use array_answers::{FaultRecord, RefinedPoints, refine_points};
 use flat_arrays::Wide;
-use level_arrays::{put_exact_points, put_points32, put_points64};
-use mesh_arrays::MeshArrays;
+use mesh_arrays::{MeshArrays, put_exact_points, put_points32, put_points64};
 use std::alloc::Global;
 
 // The number of points.

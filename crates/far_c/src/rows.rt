@@ -6,7 +6,7 @@ ghost use Rattle.far_c.specs.Status.{AnswersFault, IsKeptIfDone};
 ghost use Rattle.far_c.specs.Rows.{record_of_row_fault};
 
 use crate::status::record;
-use fault_record::{BAD_ARGUMENT, BAD_ARRAYS, DONE, FaultRecord, TOO_SHORT};
+use array_answers::{BAD_ARGUMENT, BAD_ARRAYS, DONE, FaultRecord, TOO_SHORT};
 use flat_arrays::Wide;
 use row_arrays::{ControlArrays, RowArrays, RowFault, RowRange, apply_rows};
 

@@ -1,15 +1,13 @@
 //! The sparse levels of a mesh.
 
 ghost use Rattle.std.specs.Prelude.{◌≡◌};
-ghost use Rattle.level_arrays.specs.SparsePlaces.{AreSamePlaces};
+ghost use Rattle.mesh_arrays.specs.SparsePlaces.{AreSamePlaces};
 ghost use Rattle.far_c.specs.Sparse.{AnswersSparse};
 ghost use Rattle.far_c.specs.Status.{IsKeptUnlessRefused, IsKeptIfRefused};
 
 use crate::status::written;
-use array_answers::{SparseRequest, sparse_of_arrays};
-use fault_record::FaultRecord;
-use level_arrays::{SparseCounts, SparsePlaces, put_sparse, sparse_counts_of};
-use mesh_arrays::MeshArrays;
+use array_answers::{FaultRecord, SparseRequest, sparse_of_arrays};
+use mesh_arrays::{MeshArrays, SparseCounts, SparsePlaces, put_sparse, sparse_counts_of};
 use std::alloc::Global;
 
 /// Writes the requested sparse levels of a mesh with their points, and the counts of all levels. The denominator of a point is that of its

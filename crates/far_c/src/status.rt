@@ -2,11 +2,11 @@
 
 ghost use Rattle.std.specs.Prelude.{◌≡◌, ◌≤◌, ◌<◌, if◌then◌else◌};
 ghost use Rattle.far_fault.specs.View.{fault_of};
-ghost use Rattle.fault_record.specs.Arrays.{row};
-ghost use Rattle.fault_record.specs.Back.{IsRecordOf};
+ghost use Rattle.array_answers.specs.ArrayRecords.{row};
+ghost use Rattle.array_answers.specs.RecordBack.{IsRecordOf};
 
+use array_answers::{DONE, FaultRecord, TOO_SHORT, record_of};
 use far_fault::FarFault;
-use fault_record::{DONE, FaultRecord, TOO_SHORT, record_of};
 
 // The status after writing into arrays, or for an array that is too short.
 pub(crate) fn written(done: bool) -> u32

@@ -7,7 +7,7 @@ ghost use Rattle.far_c.specs.Stored.{AnswersCheck, AnswersRead, AnswersWrite};
 ghost use Rattle.far_c.specs.Status.{IsKeptUnlessRefused, IsKeptIfRefused};
 
 use crate::status;
-use fault_record::{DONE, FaultRecord};
+use array_answers::{DONE, FaultRecord};
 use mesh_arrays::MeshArrays;
 use std::alloc::Global;
 use table_arrays::{

@@ -7,8 +7,7 @@ ghost use Rattle.far_c.specs.Answers.{AnswersTable};
 ghost use Rattle.far_c.specs.Status.{IsKeptUnlessRefused, IsKeptIfRefused};
 
 use crate::status::written;
-use array_answers::{RowRequest, rows_of_arrays};
-use fault_record::FaultRecord;
+use array_answers::{FaultRecord, RowRequest, rows_of_arrays};
 use mesh_arrays::MeshArrays;
 use std::alloc::Global;
 use table_arrays::{

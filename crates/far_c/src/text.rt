@@ -6,8 +6,8 @@ ghost use Rattle.far_c.specs.Texts.{AnswersText};
 ghost use Rattle.far_c.specs.Status.{IsKeptUnlessRefused, IsKeptIfRefused};
 
 use crate::status::refused;
+use array_answers::{DONE, FaultRecord, TOO_SHORT};
 use far_fault::FarFault;
-use fault_record::{DONE, FaultRecord, TOO_SHORT};
 use mesh_answers::mesh_of_text;
 use mesh_arrays::{
     MeshCounts, MeshOptions, MeshPlaces, are_long_enough, counts_of, options_of, put_mesh,

@@ -3,17 +3,17 @@
 ghost use Rattle.std.specs.Prelude.{◌≡◌, ◌*◌, length, nat_le, map, take, drop, true, false};
 ghost use Rattle.flat_arrays.specs.Places.{IsSameArray};
 ghost use Rattle.flat_arrays.specs.Words.{integer_of};
-ghost use Rattle.level_arrays.specs.Places.{IsRestKept};
-ghost use Rattle.level_arrays.specs.Values.{all_value_numerators};
+ghost use Rattle.mesh_arrays.specs.Places.{IsRestKept};
+ghost use Rattle.mesh_arrays.specs.Values.{all_value_numerators};
 ghost use Rattle.far_c.specs.Textures.{AnswersTextureLevel, AnswersTextureValues};
 ghost use Rattle.far_c.specs.Status.{IsKeptUnlessDone, IsKeptUnlessRefused, IsKeptIfRefused};
 
 use crate::status::written;
-use array_answers::{TextureArrays, texture_of_arrays};
-use fault_record::FaultRecord;
+use array_answers::{FaultRecord, TextureArrays, texture_of_arrays};
 use flat_arrays::Wide;
-use level_arrays::{LevelCounts, LevelPlaces, counts_of, put_exact_values, put_level};
-use mesh_arrays::MeshArrays;
+use mesh_arrays::{
+    LevelCounts, LevelPlaces, MeshArrays, level_counts_of, put_exact_values, put_level,
+};
 use std::alloc::Global;
 
 // The number of points of the cut mesh.
@@ -62,7 +62,7 @@ pub extern "C" fn far_texture_level(
 {
     match texture_of_arrays(alloc, mesh, seams, depth) {
         Ok(found) => {
-            *counts = counts_of(&found.texture.level);
+            *counts = level_counts_of(&found.texture.level);
             let done = put_level(&found.texture.level, places);
             // The prover proves a named drop once for each type.
             drop(found);

@@ -1,11 +1,11 @@
 // Lines of `frames`, each with its request or the cause of its refusal.
 
 use crate::expect::expect_same;
-use frame_line::FrameLine::{Empty, Go};
-use frame_line::{FrameLine, read_frame_line};
 use obj_tags::ObjCause;
 use obj_tags::ObjCause::{BadNumeral, MoveIndex, NumberRange, ShortLine, TooFine, UnknownKeyword};
 use ratio128::Point3;
+use table_answers::FrameLine::{Empty, Go};
+use table_answers::{FrameLine, read_frame_line};
 
 // Ten to the 37, the greatest common denominator.
 const TENS: u128 = 10_000_000_000_000_000_000_000_000_000_000_000_000;

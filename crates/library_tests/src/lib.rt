@@ -1,4 +1,5 @@
-//! Tests the calls that read: numbers, sharpness, words, lines, meshes and stored tables.
+//! Tests the calls that read, and tables of stencils. The calls read numbers, sharpness, words, lines, meshes and stored tables. The tables
+//! are put together, evaluated, and moved in sessions with their marks.
 #![tactic(auto)]
 
 #[cfg(test)]
@@ -10,7 +11,11 @@ mod frame_lines;
 #[cfg(test)]
 mod lines;
 #[cfg(test)]
+mod marks;
+#[cfg(test)]
 mod meshes;
+#[cfg(test)]
+mod number_lists;
 #[cfg(test)]
 mod numbers;
 #[cfg(test)]
@@ -18,6 +23,12 @@ mod numerals;
 #[cfg(test)]
 mod parts;
 #[cfg(test)]
+mod sessions;
+#[cfg(test)]
 mod sharpness;
 #[cfg(test)]
 mod stored;
+#[cfg(test)]
+mod tables;
+#[cfg(test)]
+mod widths;

@@ -2,3 +2,9 @@ pub mod Arrays
 pub mod Faults
 pub mod Written
 pub mod FaultText
+pub mod Flat
+pub mod Places
+pub mod Points
+pub mod Values
+pub mod SparseFlat
+pub mod SparsePlaces

@@ -7,8 +7,7 @@ ghost use Rattle.array_answers.specs.Refused.{IsRefusal};
 ghost use Rattle.mesh_arrays.specs.Arrays.{mesh_of_arrays as defined_mesh};
 ghost use Rattle.refined_point.specs.Point.{IsPointAt, EndBefore};
 
-use array_answers::refine_points;
-use fault_record::FaultRecord;
+use array_answers::{FaultRecord, refine_points};
 use mesh_arrays::MeshArrays;
 use ratio128::{Point3, Valued};
 use std::alloc::Global;

@@ -29,9 +29,9 @@ use Rattle.obj_tags.specs.declared.fault.ObjCause as tags
 use Rattle.raw_mesh.specs.View.{point_of}
 use Rattle.ratio128.specs.Numbers.{greatest_amount}
 use Rattle.ratio128.specs.declared.point.Point3.{Point3}
-use Rattle.frame_line.specs.FrameLine.{IsMove, IsFrameLine}
-use Rattle.frame_line.specs.declared.line.FrameLine.{FrameLine}
-use Rattle.frame_line.specs.declared.line.FrameLine.TheVariants.{Empty, Move, Go}
+use Rattle.table_answers.specs.FrameRequest.{IsMove, IsFrameLine}
+use Rattle.table_answers.specs.declared.frame_line.FrameLine.{FrameLine}
+use Rattle.table_answers.specs.declared.frame_line.FrameLine.TheVariants.{Empty, Move, Go}
 use Rattle.stencil_apply.specs.Table.{greatest_of}
 use Rattle.stencil_session.specs.Session.{State, IsState, numbers_of, after_move, mark_rows, rows_with}
 use Rattle.table_answers.specs.FrameAnswers.{Answers, AnswersLine, IsPosedOn}

@@ -11,3 +11,4 @@ pub mod FrameRowLemmas
 pub mod FrameStartLemmas
 pub mod FrameAnswerLemmas
 pub mod FrameLawLemmas
+pub mod MoveLemmas

@@ -7,3 +7,4 @@ pub mod FrameLines
 pub mod FramesKept
 pub mod FrameMoves
 pub mod FrameLaws
+pub mod FrameRequest

@@ -10,10 +10,10 @@ ghost use Rattle.table_answers.specs.FramesKept.{IsTableWithin};
 ghost use Rattle.table_answers.specs.FrameStepCounts.{start_least};
 
 use crate::changed_points::answer_go;
+use crate::frame_line::{FrameLine, read_frame_line};
 use crate::moves::move_control;
 use far_fault::FarFault;
 use far_io::Sink;
-use frame_line::{FrameLine, read_frame_line};
 use mesh_answers::compose;
 use ratio128::Steps;
 use raw_mesh::RawMesh;
@@ -92,7 +92,7 @@ impl PosedMesh {
     ///
     /// Errors:
     ///
-    /// - `Obj`: the number of the line and the first cause of [`read_frame_line`](frame_line::read_frame_line);
+    /// - `Obj`: the number of the line and the first cause of [`read_frame_line`](crate::read_frame_line);
     /// - `Overflow` of the positions at the depth and `Value`: the greatest denominator there times a numerator of the move is above
     ///   2^126 - 1;
     /// - `Write`: the sink failed; it holds a prefix of the text.

@@ -12,8 +12,8 @@ use Rattle.far_model.specs.Stored.{first_difference, stored_fault}
 use Rattle.table_laws.proofs.BackLemmas.{table-written}
 use Rattle.table_laws.proofs.DifferenceLemmas.{difference-none}
 use Rattle.table_file.specs.Read.{TableRead}
-use Rattle.fault_record.specs.Back.{IsRecordOf}
-use Rattle.fault_record.specs.declared.record.FaultRecord.{FaultRecord}
+use Rattle.array_answers.specs.RecordBack.{IsRecordOf}
+use Rattle.array_answers.specs.declared.record.FaultRecord.{FaultRecord}
 use Rattle.table_arrays.specs.Texts.{IsReadOf, IsRefusedFor, read_refusal, reading_refusal, text_limit}
 use Rattle.table_arrays.specs.Checked.{IsCompared, IsTextChecked, IsWhole, check_refusal}
 

@@ -8,7 +8,7 @@ use Rattle.mesh_arrays.specs.Faults.{IsMeshOf}
 use Rattle.mesh_arrays.specs.declared.arrays.MeshArrays.{MeshArrays}
 use Rattle.array_answers.specs.Composed.{IsRefinedOf}
 use Rattle.array_answers.specs.declared.compose.RefinedArrays.{RefinedArrays}
-use Rattle.fault_record.specs.declared.record.FaultRecord.{FaultRecord}
+use Rattle.array_answers.specs.declared.record.FaultRecord.{FaultRecord}
 use Rattle.table_arrays.specs.Texts.{IsRefusedFor}
 use Rattle.table_arrays.specs.Checked.{IsChecked, IsOwn, IsTextChecked, IsTextOf, check_refusal}
 

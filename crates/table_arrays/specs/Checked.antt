@@ -11,7 +11,7 @@ use Rattle.mesh_arrays.specs.Arrays.{mesh_of_arrays}
 use Rattle.mesh_arrays.specs.Faults.{IsMeshOf}
 use Rattle.mesh_arrays.specs.declared.arrays.MeshArrays.{MeshArrays}
 use Rattle.array_answers.specs.Refused.{IsRefusal}
-use Rattle.fault_record.specs.declared.record.FaultRecord.{FaultRecord}
+use Rattle.array_answers.specs.declared.record.FaultRecord.{FaultRecord}
 use Rattle.table_arrays.specs.Texts.{IsRefusedFor, text_limit}
 
 -- the faults of a text that must be that of a table: it is too long, has a bad line, goes on behind the table, or has another row

@@ -4,8 +4,8 @@ use Rattle.std.specs.List.{range_with_len}
 use Rattle.subdiv_model.specs.Table.{Share, Row, Table, IsRow}
 use Rattle.flat_arrays.specs.Words.{natural_of}
 use Rattle.flat_arrays.specs.declared.wide.Wide.{Wide}
-use Rattle.fault_record.specs.Arrays.{row}
-use Rattle.fault_record.specs.declared.record.FaultRecord.{FaultRecord}
+use Rattle.array_answers.specs.ArrayRecords.{row}
+use Rattle.array_answers.specs.declared.record.FaultRecord.{FaultRecord}
 use Rattle.table_arrays.specs.declared.exact_rows.ExactRows.{ExactRows}
 
 -- the number at a place of an array

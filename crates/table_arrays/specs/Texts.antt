@@ -4,8 +4,8 @@ use Rattle.subdiv_model.specs.Fault.{Fault, Long, Table, Memory}
 use Rattle.subdiv_model.specs.ReadTable.{Reading, read_table}
 use Rattle.subdiv_model.specs.TableFault.{TableFault}
 use Rattle.table_file.specs.Read.{TableRead, IsReadUpTo}
-use Rattle.fault_record.specs.Back.{IsRecordOf}
-use Rattle.fault_record.specs.declared.record.FaultRecord.{FaultRecord}
+use Rattle.array_answers.specs.RecordBack.{IsRecordOf}
+use Rattle.array_answers.specs.declared.record.FaultRecord.{FaultRecord}
 
 -- the record is that of the fault, or of no memory
 pub record IsRefusedFor (refusal : Option Fault) (found : FaultRecord) : Type 0 where

@@ -4,9 +4,8 @@ ghost use Rattle.std.specs.Prelude.{◌≡◌, length, nat_eq};
 ghost use Rattle.table_arrays.specs.Checked.{IsChecked, IsCompared, IsOwnTable, IsTextChecked, IsWholeTable};
 
 use crate::read::read_stored;
-use array_answers::refine_arrays;
+use array_answers::{FaultRecord, record_of, refine_arrays};
 use far_fault::{FarFault, TableCause};
-use fault_record::{FaultRecord, record_of};
 use mesh_arrays::MeshArrays;
 use std::alloc::Global;
 use stencil_apply::StencilTable;

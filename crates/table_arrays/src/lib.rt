@@ -4,7 +4,7 @@
 //!
 //! The crate also reads, writes, makes and checks stored tables in a caller's memory. A table comes from the bytes of its text
 //! or from rows in arrays. A check compares a text with the table of a mesh in arrays. An error is a `FaultRecord` of
-//! `fault_record`; `table_file` defines the text.
+//! `array_answers`; `table_file` defines the text.
 #![tactic(auto)]
 
 mod check;

@@ -3,8 +3,8 @@
 ghost use Rattle.std.specs.Prelude.{◌≡◌};
 ghost use Rattle.table_arrays.specs.Texts.{IsReadStored};
 
+use array_answers::{FaultRecord, record_of};
 use far_fault::FarFault;
-use fault_record::{FaultRecord, record_of};
 use std::alloc::Global;
 use table_file::{ReadTable, TableReadFault, read_table};
 

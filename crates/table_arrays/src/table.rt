@@ -1,14 +1,14 @@
 //! The table of rows in a caller's arrays.
 
 ghost use Rattle.std.specs.Prelude.{◌≡◌, ◌<◌, true, length, IfOk, MatchResult};
-ghost use Rattle.fault_record.specs.Arrays.{row};
+ghost use Rattle.array_answers.specs.ArrayRecords.{row};
 ghost use Rattle.table_arrays.specs.Built.{AreAdded, AreFirstRows, IsAdded, IsRowsFault};
 ghost use Rattle.table_arrays.specs.Rows.{IsTableOf, IsTableOfRows, is_in_shape};
 
 use crate::entries::read_row;
 use crate::exact_rows::{ExactRows, are_in_shape, denominator_of};
+use array_answers::{BAD_ARRAYS, FaultRecord, record_of};
 use far_fault::FarFault;
-use fault_record::{BAD_ARRAYS, FaultRecord, record_of};
 use number_width::Width;
 use ratio128::Memory;
 use std::alloc::Global;

@@ -1,6 +1,6 @@
 use Rattle.std.proofs.Common.{◌≤◌, sym, subst}
-use Rattle.fault_record.specs.declared.record.FaultRecord.{FaultRecord}
-use Rattle.fault_record.proofs.StatusLemmas.{number-status}
+use Rattle.array_answers.specs.declared.record.FaultRecord.{FaultRecord}
+use Rattle.array_answers.proofs.RecordStatusLemmas.{number-status}
 use Rattle.far_c.proofs.numbers.record_of_number.Goals as goal
 
 pub returns-clause-status : goal.returns-clause-status

@@ -1,5 +1,5 @@
 use Rattle.far_fault.specs.View.{fault_of}
-use Rattle.fault_record.proofs.StatusLemmas.{record-status}
+use Rattle.array_answers.proofs.RecordStatusLemmas.{record-status}
 use Rattle.far_c.proofs.status.refused.Goals as goal
 
 pub returns-clause-status : goal.returns-clause-status

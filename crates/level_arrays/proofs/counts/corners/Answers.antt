@@ -1,5 +1,0 @@
-use Rattle.level_arrays.proofs.StartLemmas.{last-start}
-use Rattle.level_arrays.proofs.counts.corners.Goals as goal
-
-pub returns : goal.returns
-returns c = last-start _ _ c.corner_starts-starts.ensures.ascend
