@@ -53,7 +53,7 @@ TABLE = re.compile(r"^Measured on .*\n\n(?:\|.*\n)+", re.MULTILINE)
 TITLES = "Words", "Mesh", "Counted", "ns each", "ns a byte", "MB", "Bytes each", "Growth", "Instructions", "Bound"
 STEP = 8  # how many times smaller the next size is
 QUICK_FRAMES = 10
-LEAST_RATIO_OF_TIME, LEAST_RATIO = 4, 1.9  # how many times more a mesh must have that growth is told: time varies
+LEAST_RATIO_OF_TIME, LEAST_RATIO = 4, 1.9  # how many times more a mesh must have that growth is reported: time varies
 RUNS_OF_SMALL = 3  # how many runs of the smaller size there are for each of the larger
 LEAST_THAT_GROWS = 64
 LEAST_SIZE = {meshes.creased_character: 340 * 4**2, meshes.semi_sharp_character: 340 * 4**2}  # of makers that need one
@@ -232,17 +232,17 @@ class Bench:
     def measured(self, case: Case) -> list[Measured]:
         """What is seen of a case at its size, and at the eighth of it."""
         sizes, sink = self.sizes_of(case)[:2], self.folder / "written"
-        runs, told = [[] for _ in sizes], [None for _ in sizes]
+        runs, counts = [[] for _ in sizes], [None for _ in sizes]
         for _ in range(self.runs):
             for place, size in enumerate(sizes):
                 words, made = words_of(case, size), self.texts.text_for(case, size)
                 runs[place] += [run_once(self.program, words, made.path, sink) for _ in range(runs_of(sizes, place))]
-                told[place] = told[place] or self.told_by(case, size, sink, runs[place][-1].status)
+                counts[place] = counts[place] or self.counted_by(case, size, sink, runs[place][-1].status)
         sink.unlink()
         best = [(min(run.seconds for run in seen), max(run.peak for run in seen)) for seen in runs]
-        return [Measured(count, count, *one, moved, faults) for one, (count, moved, faults) in zip(best, told)]
+        return [Measured(count, count, *one, moved, faults) for one, (count, moved, faults) in zip(best, counts)]
 
-    def told_by(self, case: Case, size: int, sink: Path, status: int) -> tuple[int, int | None, tuple[str, ...]]:
+    def counted_by(self, case: Case, size: int, sink: Path, status: int) -> tuple[int, int | None, tuple[str, ...]]:
         """How many a run counted, how many bytes it read and wrote, and what is wrong with it."""
         words, made = words_of(case, size), self.texts.text_for(case, size)
         faults = faults_of(case.maker, words, made, sink, status)

@@ -16,7 +16,7 @@ use std::sync::ledger::Ledger;
 use table_answers::PosedMesh;
 
 // The greatest number of bytes of a frame line, with its line feed.
-const ROOM: usize = 65_536;
+const LINE_LIMIT: usize = 65_536;
 
 /// A reader of frame lines, and the number of lines of the input that it has passed.
 #[derive(Drop)]
@@ -63,7 +63,7 @@ impl FrameLines {
         ensures allowed { IfOk result (λ lines. lines.reader.allowed ≡ text.now.allowed) }
         ensures fault { IfErr result (λ fault. fault ≡ Memory) }
     {
-        let reader = LineReader::new(alloc, ROOM, text.pending(), text.allowed())?;
+        let reader = LineReader::new(alloc, LINE_LIMIT, text.pending(), text.allowed())?;
         Ok(FrameLines {
             reader,
             passed: number,

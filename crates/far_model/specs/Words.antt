@@ -7,7 +7,7 @@ use Rattle.subdiv_model.specs.Digits.{is_number_word, number_of_digits}
 -- the values that an option allows
 pub data ValueKind : Type 0 where
   -- a number between two bounds, both allowed
-  Between : ℕ → ℕ → ValueKind
+  Number : ℕ → ℕ → ValueKind
   -- one of the names
   OneOf : List (List ℕ) → ValueKind
 
@@ -24,11 +24,11 @@ pub record CommandRule : Type 0 where
 
 -- a required option whose value is a number between two bounds
 abbrev pub required_option : List ℕ → ℕ → ℕ → OptionRule
-required_option name least greatest = record { name = name; kind = Between least greatest; required = true }
+required_option name least greatest = record { name = name; kind = Number least greatest; required = true }
 
 -- an option whose value is a number between two bounds
 abbrev pub number_option : List ℕ → ℕ → ℕ → OptionRule
-number_option name least greatest = record { name = name; kind = Between least greatest; required = false }
+number_option name least greatest = record { name = name; kind = Number least greatest; required = false }
 
 -- an option whose value is one of some names
 abbrev pub name_option : List ℕ → List (List ℕ) → OptionRule
@@ -72,7 +72,7 @@ command_table =
 
 -- the option allows this value
 abbrev pub is_value : ValueKind → List ℕ → Bool
-is_value (Between least greatest) value =
+is_value (Number least greatest) value =
     is_number_word value && nat_le least (number_of_digits value) && nat_le (number_of_digits value) greatest
 is_value (OneOf names) value = list_any (bytes_eq value) names
 

@@ -124,7 +124,7 @@ fn sink_of(alloc: Global, writes: &Writes) -> Result<MemSink, Memory>
     MemSink::in_pieces(alloc, room, vec![in alloc; call]?, vec![in alloc; size]?)
 }
 
-fn expect_told(
+fn expect_ended(
     rt: &(impl Abort + AllocGlobal),
     words: &Vec<String>,
     source: &mut MemSource,
@@ -132,8 +132,8 @@ fn expect_told(
     calls: &Calls,
     want: &Ended,
 ) -> Result<(), Fail> {
-    let &(_, _, tell) = calls;
-    let mut errors = sink_of(rt.alloc(), &(tell, 64, 64))?;
+    let &(_, _, failing) = calls;
+    let mut errors = sink_of(rt.alloc(), &(failing, 64, 64))?;
     let status = program_on(rt.alloc(), words, source, sink, &mut errors);
     let &(wanted, line, text) = want;
     let given = (status, errors.bytes(), sink.bytes());
@@ -151,7 +151,7 @@ fn expect_written(
     let (_, writes, _) = calls;
     assert!(rt; 0 < writes.1);
     let mut sink = sink_of(rt.alloc(), writes)?;
-    expect_told(rt, words, source, &mut sink, calls, want)
+    expect_ended(rt, words, source, &mut sink, calls, want)
 }
 
 fn expect_read(

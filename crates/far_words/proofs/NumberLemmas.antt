@@ -6,7 +6,7 @@ use Rattle.std.proofs.lemmas.Bool.{and_left, and_right, and_from, le-leb, lt-leb
 use Rattle.std.proofs.lemmas.List.{take_all}
 use Rattle.std.proofs.lemmas.List.Sums.{fold_more}
 use Rattle.subdiv_model.specs.Digits.{is_digit, number_of_digits, is_number_word}
-use Rattle.far_model.specs.Words.{Between, is_value}
+use Rattle.far_model.specs.Words.{Number, is_value}
 use Rattle.far_words.specs.Table.{fits_u32, u32_of_digits, u32_of_word}
 
 number-grows : (a : ℕ) (digits : List ℕ) → a ≤ fold (λ n b. n * 10 + (b - 48)) a digits
@@ -38,7 +38,7 @@ all-digits digits number i all is past fits =
 
 -- A word that is not a number of 32 bits is not a value of a range of 32 bits.
 pub not-between : (word : List ℕ) (least greatest : ℕ) → u32_of_word word ≡ None → greatest ≤ 4294967295
-    → false ≡ is_value (Between least greatest) word
+    → false ≡ is_value (Number least greatest) word
 not-between word least greatest none small = go (is_number_word word) refl
   where
     n : ℕ

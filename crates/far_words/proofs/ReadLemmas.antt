@@ -6,7 +6,7 @@ use Rattle.std.specs.List.{list_all, list_any}
 use Rattle.std.proofs.lemmas.Bool.{and_parts, and_from, or_cases, leb-true, le-leb, ltb-true}
 use Rattle.std.proofs.lemmas.Slice.Eq.{bytes_eq-Decides}
 use Rattle.subdiv_model.specs.Digits.{number_of_digits, is_number_word}
-use Rattle.far_model.specs.Words.{ValueKind, Between, OneOf, OptionRule, CommandRule, is_value, first_bad_option, number_of, rule_named, usage_of_rule, value_of}
+use Rattle.far_model.specs.Words.{ValueKind, Number, OneOf, OptionRule, CommandRule, is_value, first_bad_option, number_of, rule_named, usage_of_rule, value_of}
 use Rattle.far_model.specs.Command.{Command, read_or, read_words_by}
 use Rattle.far_words.proofs.GoodOptionLemmas.{IsGood, good-of-none}
 use Rattle.far_words.proofs.ValueLemmas.{allowed-value}
@@ -16,7 +16,7 @@ use Rattle.far_words.specs.Table.{u32_of_word, u32_of_option, AreNumbersU32, num
 number-value : (kind : ValueKind) (value : List ℕ) → is_u32_kind kind ≡ true → is_value kind value ≡ true
     → u32_of_word value ≡ Some (number_of_digits value)
 number-value (OneOf names) value small is = absurd (cc)
-number-value (Between least greatest) value small is =
+number-value (Number least greatest) value small is =
     let outer = and_parts (is_number_word value && nat_le least (number_of_digits value)) (nat_le (number_of_digits value) greatest) is in
     let inner = and_parts (is_number_word value) (nat_le least (number_of_digits value)) outer.0 in
     let below : number_of_digits value ≤ greatest = leb-true _ _ outer.1 in

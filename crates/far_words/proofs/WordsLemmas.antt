@@ -158,8 +158,8 @@ limit_decimals options none = go (value_of options (codes "decimals")) refl
         (within_bounds (is_number_word value) 0 18 (number_of_digits value)
         (allowed-of-rule (Some limit_rule) options limit_rule (codes "decimals") value refl none is)).1
 
-depth_alone : (name : List ℕ) (options : List (List ℕ)) → usage_of_rule (Some (depth_rule name)) options ≡ None → required_number options (codes "depth") ≤ 10
-depth_alone name options none =
+depth_required : (name : List ℕ) (options : List (List ℕ)) → usage_of_rule (Some (depth_rule name)) options ≡ None → required_number options (codes "depth") ≤ 10
+depth_required name options none =
     let found = some_value (value_of options (codes "depth")) (required-of-rule (Some (depth_rule name)) options (depth_rule name) refl none) in
     let allowed = allowed-of-rule (Some (depth_rule name)) options (depth_rule name) (codes "depth") found.0 refl none found.1 in
     (number_within options (codes "depth") found.0 0 10 found.1 allowed).1
@@ -256,20 +256,20 @@ says-in-range (name ∷ options) none =
     by_test false true tabled limited moved counted patched mapped verified applied made d is e l f g p m h i j none =
         named (codes "sparse") is (sparse_depth options none, sparse_decimals options none)
     by_test false false true limited moved counted patched mapped verified applied made d e is l f g p m h i j none =
-        named (codes "stencils") is (depth_alone (codes "stencils") options none)
+        named (codes "stencils") is (depth_required (codes "stencils") options none)
     by_test false false false true moved counted patched mapped verified applied made d e l is f g p m h i j none =
         let depth = limit_depth options none in
         named (codes "limit") is (depth.0, depth.1, limit_decimals options none)
     by_test false false false false true counted patched mapped verified applied made d e l f is g p m h i j none =
         named (codes "frames") is (frames_depth options none, frames_scale options none)
     by_test false false false false false true patched mapped verified applied made d e l f g is p m h i j none =
-        named (codes "levels") is (depth_alone (codes "levels") options none)
+        named (codes "levels") is (depth_required (codes "levels") options none)
     by_test false false false false false false true mapped verified applied made d e l f g p is m h i j none =
         named (codes "patch") is (patch_numbers options none)
     by_test false false false false false false false true verified applied made d e l f g p n is h i j none =
         named (codes "map") is (map_numbers options none)
     by_test false false false false false false false false true applied made d e l f g p h m is i j none =
-        named (codes "verify") is (depth_alone (codes "verify") options none)
+        named (codes "verify") is (depth_required (codes "verify") options none)
     by_test false false false false false false false false false true made d e l f g p h m i is j none =
         named (codes "apply") is tt
     by_test false false false false false false false false false false true d e l f g p h m i j is none =

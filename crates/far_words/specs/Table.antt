@@ -3,7 +3,7 @@ use Rattle.std.specs.Prelude.{◌≡◌, ℕ, Bool, false, not, ◌||◌, ◌&&�
 use Rattle.std.specs.Option.{option_and_then}
 use Rattle.std.specs.List.{list_all, list_any}
 use Rattle.subdiv_model.specs.Digits.{is_digit, number_of_digits, is_number_word}
-use Rattle.far_model.specs.Words.{ValueKind, Between, OneOf, OptionRule, CommandRule, value_of, number_of}
+use Rattle.far_model.specs.Words.{ValueKind, Number, OneOf, OptionRule, CommandRule, value_of, number_of}
 
 -- Whether a number fits 32 bits.
 abbrev pub fits_u32 : ℕ → Bool
@@ -38,7 +38,7 @@ number_names = codes "depth" ∷ codes "decimals" ∷ codes "seed" ∷ codes "si
 
 -- Whether every value of the kind is a number that fits 32 bits.
 abbrev pub is_u32_kind : ValueKind → Bool
-is_u32_kind (Between least greatest) = fits_u32 greatest
+is_u32_kind (Number least greatest) = fits_u32 greatest
 is_u32_kind (OneOf names) = false
 
 -- The option has another name, or its values are numbers that fit 32 bits.

@@ -4,7 +4,7 @@ use Rattle.std.specs.Result.{result_map_both}
 use Rattle.far_model.specs.Words as words
 use Rattle.far_model.specs.Command as model
 use Rattle.far_words.specs.declared.table.ValueKind.{ValueKind}
-use Rattle.far_words.specs.declared.table.ValueKind.TheVariants.{Between, OneOf}
+use Rattle.far_words.specs.declared.table.ValueKind.TheVariants.{Number, OneOf}
 use Rattle.far_words.specs.declared.table.OptionRule.{OptionRule}
 use Rattle.far_words.specs.declared.table.CommandRule.{CommandRule}
 use Rattle.far_words.specs.declared.command.Uv.{Uv}
@@ -35,7 +35,7 @@ use Rattle.far_words.specs.declared.command.Command.TheVariants.{Read, Stored, M
 
 -- A kind of values as in the definitions.
 abbrev pub kind_of_code : ValueKind → words.ValueKind
-kind_of_code (Between least greatest) = words.Between least greatest
+kind_of_code (Number least greatest) = words.Number least greatest
 kind_of_code (OneOf names) = words.OneOf (map (λ name. name.now) names.now)
 
 -- An option of the table as in the definitions.

@@ -4,7 +4,7 @@ ghost use Rattle.std.specs.Prelude.{◌≡◌, not, ◌&&◌, ◌||◌, map, str
 ghost use Rattle.std.specs.Option.{option_map};
 ghost use Rattle.std.specs.List.{list_any};
 ghost use Rattle.far_model.specs.Words as model;
-ghost use Rattle.far_model.specs.Words.{Between};
+ghost use Rattle.far_model.specs.Words.{Number};
 ghost use Rattle.far_words.specs.View.{kind_of_code, option_of_code};
 ghost use Rattle.far_words.specs.Table.{u32_of_option};
 
@@ -13,7 +13,7 @@ use crate::table::{OptionRule, ValueKind};
 
 // Whether the value is a number from `least` to `greatest`.
 fn is_number_in_range(least: u32, greatest: u32, value: &str) -> bool
-    ensures { result ≡ model.is_value (Between least greatest) value.now }
+    ensures { result ≡ model.is_value (Number least greatest) value.now }
 {
     match read_number(value.as_bytes()) {
         Some(number) => least <= number && number <= greatest,
@@ -40,7 +40,7 @@ fn is_value(kind: &ValueKind, value: &str) -> bool
     ensures { result ≡ model.is_value (kind_of_code kind.now) value.now }
 {
     match *kind {
-        ValueKind::Between { least, greatest } => is_number_in_range(least, greatest, value),
+        ValueKind::Number { least, greatest } => is_number_in_range(least, greatest, value),
         ValueKind::OneOf(names) => is_one_of(names, value),
     }
 }

@@ -8,7 +8,7 @@ ghost use Rattle.far_words.specs.View.{table_of_code};
 #[derive(Clone, Copy, Debug)]
 pub enum ValueKind {
     /// A number from `least` to `greatest`, in decimal digits without a leading zero.
-    Between { least: u32, greatest: u32 },
+    Number { least: u32, greatest: u32 },
     /// One of these names.
     OneOf(&'static [&'static str]),
 }
@@ -31,14 +31,14 @@ pub struct CommandRule {
 // A required number.
 macro_rules! required_option {
     ($name:literal, $least:literal, $greatest:literal) => {
-        OptionRule { name: $name, kind: ValueKind::Between { least: $least, greatest: $greatest }, required: true }
+        OptionRule { name: $name, kind: ValueKind::Number { least: $least, greatest: $greatest }, required: true }
     };
 }
 
 // An optional number.
 macro_rules! number_option {
     ($name:literal, $least:literal, $greatest:literal) => {
-        OptionRule { name: $name, kind: ValueKind::Between { least: $least, greatest: $greatest }, required: false }
+        OptionRule { name: $name, kind: ValueKind::Number { least: $least, greatest: $greatest }, required: false }
     };
 }
 

@@ -133,7 +133,7 @@ moved-can bound controls places sums touched can =
       each = All-from_recursion (λ share. 0 < share.1) (moved places sums) (moved-any places sums touched).each;
       inside = All-from_recursion (λ share. share.0 < length controls) (moved places sums)
           (moved-each (λ share. share.0 < length controls) places sums touched (recursion_from_All (λ share. share.0 < length controls) shares can.inside));
-      room = subst (λ n. All (λ numbers. n * greatest_amount numbers ≤ bound) controls) total can.room;
+      within = subst (λ n. All (λ numbers. n * greatest_amount numbers ≤ bound) controls) total can.within;
     }
 
 -- The numbers that are read at places, in the order of the places.

@@ -46,7 +46,7 @@ CanSum-row bound controls table row is h e short fits =
       short = omega (arith, whole, short);
       each = good.each;
       inside = rw e good.inside;
-      room = λ k d within. omega (arith, fits k d within, mul-le-mul_right (greatest_amount (get_or controls k d)) below);
+      within = λ k d within. omega (arith, fits k d within, mul-le-mul_right (greatest_amount (get_or controls k d)) below);
     }
 
 -- over those that numbers of 128 bits suit
@@ -59,4 +59,4 @@ CanSum-wide numbers controls table row is h e fits =
 -- over those that 64 bits suit
 pub CanSum-narrow : {X : Type 0} (numbers : X → List ℤ) (controls : List X) (table : Table) (row : ℕ) → IsTable table → row < length table.rows → length controls ≡ table.controls → CanSumNarrow table (map numbers controls) → CanSum word_bound (row_at table row).shares (map numbers controls)
 CanSum-narrow numbers controls table row is h e can =
-    CanSum-row word_bound (map numbers controls) table row is h (length-map controls numbers ∙ e) (omega (arith, den-row table row h, can.short)) can.room
+    CanSum-row word_bound (map numbers controls) table row is h (length-map controls numbers ∙ e) (omega (arith, den-row table row h, can.short)) can.within

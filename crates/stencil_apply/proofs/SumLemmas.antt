@@ -93,23 +93,23 @@ module _ {N X : Type 0} (value : N → ℕ) (numbers : X → List ℤ) (bound : 
       numbers-are : numbers control ≡ get_or (map numbers controls) (get_or indices i 0) []
       numbers-are = ap numbers is ∙ sym (get_or-map numbers controls (get_or indices i 0) control [] in_controls)
 
-      room-at : IsWithin most (numbers control)
-      room-at =
+      within-at : IsWithin most (numbers control)
+      within-at =
           let there : total_of shares * greatest_amount (get_or (map numbers controls) (get_or indices i 0) []) ≤ bound =
-          fits.room (get_or indices i 0) [] (omega (arith, in_controls, length-map controls numbers)) in
+          fits.within (get_or indices i 0) [] (omega (arith, in_controls, length-map controls numbers)) in
           rw numbers-are (IsWithin-greatest most _ (amount_within (total_of shares) _ bound fits.some there))
 
-      room-for : total_of (take i shares) * most + w * most ≤ bound
-      room-for = rw weight-is (room_left (total_of shares) (total_of (take i shares)) weight bound more-le)
+      both-within : total_of (take i shares) * most + w * most ≤ bound
+      both-within = rw weight-is (room_left (total_of shares) (total_of (take i shares)) weight bound more-le)
 
       -- the control can be added, in 128 bits or in 64
       pub can_add : bound < 2 ^ 127 → IsWithin (total_of (take i shares) * most) xs → CanAdd (pos (w)) xs (numbers control)
       can_add short within =
-          CanAdd-within (total_of (take i shares) * most) (w) most xs (numbers control) within room-at (omega (arith, room-for, short))
+          CanAdd-within (total_of (take i shares) * most) (w) most xs (numbers control) within within-at (omega (arith, both-within, short))
 
       pub can_add-narrow : bound < 2 ^ 63 → IsWithin (total_of (take i shares) * most) xs → CanAddNarrow (w) xs (numbers control)
       can_add-narrow short within =
-          CanAddNarrow-within (total_of (take i shares) * most) (w) most xs (numbers control) within room-at (omega (arith, room-for, short))
+          CanAddNarrow-within (total_of (take i shares) * most) (w) most xs (numbers control) within within-at (omega (arith, both-within, short))
 
       -- if 128-bit numbers are added, the weight is one of them
       pub added-signed : bound < 2 ^ 127 → (after : List ℤ) → after ≡ plus_times (to_z w128 w) xs (numbers control) → after ≡ plus_times (pos w) xs (numbers control)
@@ -123,7 +123,7 @@ module _ {N X : Type 0} (value : N → ℕ) (numbers : X → List ℤ) (bound : 
         pub within-more : IsWithin (total_of (take i shares) * most) xs → IsWithin (total_of (take (i + 1) shares) * most) after
         within-more within =
             rw (added, more, ← weight-is)
-            (IsWithin-more _ _ _ (omega arith) (IsWithin-plus_times (total_of (take i shares) * most) w most xs (numbers control) within room-at))
+            (IsWithin-more _ _ _ (omega arith) (IsWithin-plus_times (total_of (take i shares) * most) w most xs (numbers control) within within-at))
 
         -- the sums with one more entry
         pub sums-more : (start : List ℤ) → xs ≡ sum_of_shares start (map numbers controls) (take i shares) → after ≡ sum_of_shares start (map numbers controls) (take (i + 1) shares)

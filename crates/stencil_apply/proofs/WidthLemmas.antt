@@ -36,7 +36,7 @@ module _ (table : Table) (controls : List (List ℤ)) (denominator greatest : �
         let whole : greatest_of table * greatest_of_all controls ≤ word_bound = rw (← is-denominator, ← is-greatest) h in
         record {
           short = omega (arith, whole, mul-le-mul_left (greatest_of table) least);
-          room = λ k d below.
+          within = λ k d below.
               let amounts = map greatest_amount controls in
               let most = each-le 1 (map greatest_amount controls) k 0 (rw (length-map controls greatest_amount) below) in
               omega (arith, whole, mul-le-mul_left (greatest_of table) (rw (get_or-map greatest_amount controls k d 0 below) at most));

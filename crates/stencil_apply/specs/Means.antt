@@ -12,7 +12,7 @@ pub record CanSum (bound : ℕ) (shares : List Share) (controls : List (List ℤ
   pub short : total_of shares ≤ bound
   pub each : All (λ share. 0 < share.1) shares
   pub inside : All (λ share. share.0 < length controls) shares
-  pub room : All (λ numbers. total_of shares * greatest_amount numbers ≤ bound) controls
+  pub within : All (λ numbers. total_of shares * greatest_amount numbers ≤ bound) controls
 
 -- the greatest signed 64-bit number
 abbrev pub word_bound : ℕ
@@ -21,7 +21,7 @@ word_bound = 2 ^ 63 - 1
 -- the sum of each row of a table over the controls fits 64 bits
 pub record CanSumNarrow (table : Table) (controls : List (List ℤ)) : Type 0 where
   pub short : greatest_of table ≤ word_bound
-  pub room : All (λ numbers. greatest_of table * greatest_amount numbers ≤ word_bound) controls
+  pub within : All (λ numbers. greatest_of table * greatest_amount numbers ≤ word_bound) controls
 
 -- the greatest amount of all controls, or 1 if all numbers are 0
 abbrev pub greatest_of_all : List (List ℤ) → ℕ
