@@ -1,17 +1,16 @@
 -- A table with the denominators, the controls and the shares of a level's points is the level's table.
-use Rattle.std.proofs.Common.{◌≡◌, ℕ, suc, ◌+◌, ◌<◌, nat_eq, List, [], ◌∷◌, ◌++◌, length, map, get_or, codes, if◌then◌else◌, arith, refl, ap, sym, ◌∙◌, subst}
-use Rattle.std.specs.List.{All, AllByRecursion, AllPairs, flat_map, sum_by, enumerate_from}
+use Rattle.std.proofs.Common.{◌≡◌, ℕ, suc, ◌+◌, ◌<◌, nat_eq, List, [], ◌∷◌, ◌++◌, length, map, get_or, if◌then◌else◌, arith, refl, ap, sym, ◌∙◌, subst}
+use Rattle.std.specs.List.{All, AllByRecursion, AllPairs, enumerate_from}
 use Rattle.std.proofs.lemmas.Bool.Decides.{nat_tests}
 use Rattle.std.proofs.lemmas.List.{length-map, get_or-map}
 use Rattle.std.proofs.lemmas.List.Elements.{recursion_from_All}
-use Rattle.std.proofs.lemmas.List.Sums.{sum_by-cons}
 use Rattle.std.proofs.lemmas.List.Kept.{AllPairs-from_increasing}
 use Rattle.subdiv_model.specs.Level.{Level}
 use Rattle.subdiv_model.specs.Mask.{Scheme}
 use Rattle.subdiv_model.specs.Refined.{refined_denominators}
 use Rattle.subdiv_model.specs.Support.{refined_supports, stencil_numerator}
 use Rattle.subdiv_model.specs.Table.{level_table}
-use Rattle.stencil_apply.specs.Table.{Share, Row, Table, IsRow, IsTable, row_at, entries_of}
+use Rattle.stencil_apply.specs.Table.{Share, Row, Table, IsRow, IsTable, row_at}
 use Rattle.stencil_apply.specs.Means.{numerator_of}
 
 -- the first of ascending controls is below each later one

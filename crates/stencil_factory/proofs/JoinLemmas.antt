@@ -7,7 +7,7 @@ use Rattle.std.proofs.lemmas.List.{length-replicate}
 use Rattle.std.proofs.lemmas.List.Elements.{All-from_recursion, recursion_from_All}
 use Rattle.std.proofs.lemmas.List.Sums.{sum_by-cons}
 use Rattle.subdiv_model.specs.Polygons.{is_among}
-use Rattle.subdiv_model.specs.Mask.{SourcePoint, OfPoint, OfFace, Mask, weigh, weight_in, has_source, has_distinct_sources, total_weight, is_mean}
+use Rattle.subdiv_model.specs.Mask.{SourcePoint, OfPoint, OfFace, Mask, weigh, weight_in, has_source, has_distinct_sources, total_weight}
 use Rattle.subdiv_model.specs.Mask as model
 use Rattle.sharpness_laws.specs.SameWeights.{HaveSameWeights}
 use Rattle.sharpness_laws.proofs.JoinedWeightLemmas.{weight_in-cons}

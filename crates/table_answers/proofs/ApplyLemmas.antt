@@ -1,20 +1,17 @@
 -- The results of evaluating a stored table over the points of the text behind it.
-use Rattle.std.proofs.Common.{◌≡◌, ◌≢◌, ℕ, zero, suc, ◌+◌, ◌*◌, ◌<◌, ◌≤◌, max, Bool, true, false, not, cond, nat_eq, nat_lt, ℤ, pos, ◌+ℤ◌, ◌*ℤ◌, List, [], ◌∷◌, ◌++◌, length, map, get_or, Option, Some, None, Result, Ok, Err, IsErr, IsErrAnd, IsOkAnd, IfOk, OnOk, MatchResult, arith, refl, ap, sym, subst, ◌∙◌}
-use Rattle.std.specs.List.{All, AllByRecursion, AllZip, flat_map}
-use Rattle.std.proofs.lemmas.List.{length-map, get_or-map}
+use Rattle.std.proofs.Common.{◌≡◌, ◌≢◌, ℕ, zero, suc, ◌+◌, ◌*◌, ◌<◌, ◌≤◌, not, ℤ, pos, ◌+ℤ◌, ◌*ℤ◌, List, [], ◌∷◌, ◌++◌, map, get_or, Option, Some, None, Result, Ok, Err, IsErr, IsErrAnd, IsOkAnd, IfOk, OnOk, MatchResult, arith, refl, ap, sym, subst, ◌∙◌}
+use Rattle.std.specs.List.{All, AllByRecursion, flat_map}
 use Rattle.std.proofs.lemmas.List.Elements.{recursion_from_All}
-use Rattle.subdiv_model.specs.Channel.{number_bound}
-use Rattle.subdiv_model.specs.Fault.{Fault, Obj, Controls, Overflow, Positions, ValueOverflow}
-use Rattle.subdiv_model.specs.ObjFault.{ObjFault}
+use Rattle.subdiv_model.specs.Fault.{Fault}
 use Rattle.subdiv_model.specs.ObjMesh.{ObjMesh}
 use Rattle.subdiv_model.specs.ReadObj.{read_obj_fault, read_obj_mesh}
 use Rattle.subdiv_model.specs.ReadTable.{Reading, read_table}
 use Rattle.subdiv_model.specs.Refined.{over_common, point_value, points_of_coordinates}
-use Rattle.subdiv_model.specs.Table.{Share, Row, Table, IsTable, entries_of, greatest_of}
+use Rattle.subdiv_model.specs.Table.{Share, Row, Table, entries_of}
 use Rattle.subdiv_model.specs.TableFault.{TableFault}
 use Rattle.subdiv_model.specs.Text.{point_line}
-use Rattle.subdiv_model.specs.Value.{Value, IsSameValue}
-use Rattle.far_model.specs.Answer.{answer_of_apply, positions_of}
+use Rattle.subdiv_model.specs.Value.{Value}
+use Rattle.far_model.specs.Answer.{answer_of_apply}
 use Rattle.far_model.specs.Command.{Apply}
 use Rattle.far_model.specs.Refusal.{Answer, answer_unless}
 use Rattle.far_model.specs.Stored.{control_fault, points_text, row_value, sum_over, table_coordinates}

@@ -8,7 +8,6 @@ use Rattle.subdiv_model.specs.ObjMesh.{ObjMesh}
 use Rattle.subdiv_model.specs.Channel.{number_bound}
 use Rattle.far_model.specs.Command.{Stencils}
 use Rattle.far_model.specs.Answer.{positions_of}
-use Rattle.far_model.specs.Frames.{Frame}
 use Rattle.far_model.specs.Frames as model
 use Rattle.raw_mesh.specs.View.{point_of}
 use Rattle.ratio128.specs.Numbers.{greatest_amount}

@@ -1,5 +1,5 @@
 -- The numbers of lines and points of a text. Its fault names one of its lines.
-use Rattle.std.proofs.Common.{◌≡◌, ℕ, zero, suc, ◌+◌, ◌-◌, ◌^◌, ◌≤◌, Bool, true, false, not, ◌&&◌, cond, nat_eq, nat_le, nat_lt, List, [], ◌∷◌, ◌++◌, length, map, take, drop, take_all, Result, Err, Option, Some, None, arith, leb-true, refl, sym, subst, ap, ◌∙◌}
+use Rattle.std.proofs.Common.{◌≡◌, ℕ, zero, suc, ◌+◌, ◌-◌, ◌^◌, ◌≤◌, Bool, true, false, not, ◌&&◌, cond, nat_eq, nat_le, nat_lt, List, [], ◌∷◌, ◌++◌, length, take, drop, take_all, Result, Err, Option, Some, None, arith, leb-true, refl, sym, subst, ap, ◌∙◌}
 use Rattle.std.specs.Option.{option_or}
 use Rattle.std.specs.List.{filter, slice_split}
 use Rattle.std.proofs.lemmas.Bool.{and_parts, cond_both}
@@ -8,7 +8,7 @@ use Rattle.std.proofs.lemmas.List.Splits.{length-slice_split}
 use Rattle.std.proofs.lemmas.List.Sums.{count_by-le-length, length-filter}
 use Rattle.subdiv_model.specs.ObjFault.{ObjCause, ObjFault}
 use Rattle.subdiv_model.specs.ObjLine.{closed_lines, is_vertex_line, line_words, lines_of}
-use Rattle.subdiv_model.specs.ReadObj.{common_over, fault_at, first_bad_line, first_fault, first_late_fault, late_fault, lesser_fault, lines_fault, long_fault, mesh_of_lines, obj_lines, passes_bound, point_over, position_common, read_obj_fault, read_obj_mesh, wide_fault, without_mark}
+use Rattle.subdiv_model.specs.ReadObj.{common_over, fault_at, first_bad_line, first_fault, first_late_fault, late_fault, lesser_fault, lines_fault, long_fault, obj_lines, passes_bound, point_over, position_common, read_obj_fault, read_obj_mesh, wide_fault, without_mark}
 use Rattle.subdiv_model.specs.ReadTable.{Header, Reading, behind_line, first_line_cause, first_words, has_line, header_cause, header_of, is_header_form, is_header_in_range, is_miscounted, next_row_cause, read_rows, read_table, reading_unless, row_of_words}
 use Rattle.subdiv_model.specs.Table.{Row}
 use Rattle.subdiv_model.specs.TableFault.{Count, Form, Range, TableCause, TableFault}

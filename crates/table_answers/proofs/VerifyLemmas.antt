@@ -1,5 +1,5 @@
 -- The results of comparing a stored table with the table of the mesh before it.
-use Rattle.std.proofs.Common.{◌≡◌, ℕ, suc, ◌+◌, ◌≤◌, Bool, true, false, cond, nat_eq, List, [], length, drop, Option, Some, None, option_map, Result, Ok, Err, IsErr, IsErrAnd, MatchResult, arith, refl, ap, sym, subst, ◌∙◌}
+use Rattle.std.proofs.Common.{◌≡◌, ℕ, suc, ◌+◌, ◌≤◌, Bool, false, cond, nat_eq, List, length, drop, Option, Some, None, option_map, Result, Ok, Err, IsErr, IsErrAnd, MatchResult, arith, refl, ap, sym, subst, ◌∙◌}
 use Rattle.std.specs.Option.{option_or}
 use Rattle.std.proofs.lemmas.Bool.Decides.{nat_tests}
 use Rattle.std.proofs.lemmas.List.{drop_all, length-drop}
@@ -10,7 +10,6 @@ use Rattle.subdiv_model.specs.ReadTable.{Reading, read_table}
 use Rattle.subdiv_model.specs.Table as tables
 use Rattle.subdiv_model.specs.TableFault.{Form, TableFault}
 use Rattle.far_model.specs.Answer.{answer_of_verify, composition_refusal, mesh_before_table, own_table}
-use Rattle.far_model.specs.Command.{Verify}
 use Rattle.far_model.specs.Refusal.{Answer, answer_unless}
 use Rattle.far_model.specs.Stored.{first_difference, line_count, mesh_part, stored_fault, table_fault_behind, table_part}
 use Rattle.ratio128.specs.StepsTaken.{StepsTaken}
@@ -26,7 +25,7 @@ use Rattle.mesh_answers.specs.Tables.{IsComposedOf}
 use Rattle.mesh_answers.proofs.TableLemmas.{table-own}
 use Rattle.mesh_answers.proofs.TextLemmas.{composition-refusal}
 use Rattle.mesh_answers.specs.StepCounts.{level_faces_to}
-use Rattle.table_answers.specs.Answers.{IsAnswerOf, IsOwn, IsOwnTable, IsReplyOf, IsStoredAnswer, IsStoredTable, IsWhole, compared, text_mesh}
+use Rattle.table_answers.specs.Answers.{IsAnswerOf, IsOwn, IsReplyOf, IsWhole, compared, text_mesh}
 use Rattle.table_answers.specs.Place.{IsTablePlace}
 use Rattle.table_answers.specs.declared.place.TablePlace.{TablePlace}
 
