@@ -46,7 +46,6 @@ pub(crate) fn compose_sparse<T: FaceTest, F: Fn(&FaceFacts) -> bool, L: Ledger>(
         (λ fault. IsSparseFaultTo (T.meets rule.now.1) base depth fault) }
     ensures steps { AreComposeSteps (T.meets rule.now.1) base depth steps.old steps.new }
 {
-    let mut keeping = Keeping::with_room(alloc, depth)?;
     base.facts();
     let scheme = base.scheme();
     let most = base.most();
@@ -54,6 +53,7 @@ pub(crate) fn compose_sparse<T: FaceTest, F: Fn(&FaceFacts) -> bool, L: Ledger>(
     let level = base.into_level();
     level.facts();
     let start = start_at(alloc, level)?;
+    let mut keeping = Keeping::empty(alloc);
     let end = walk(
         alloc,
         &Sparse { rule },

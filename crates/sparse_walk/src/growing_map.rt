@@ -36,6 +36,13 @@ fn put_level(map: &mut PatchMap, level: &WalkedSparse) -> Result<(), Memory>
     map.grow_to(level.before(), level.sparse())
 }
 
+// Adds a level to a map, and drops it.
+fn take_level(map: &mut PatchMap, level: WalkedSparse) -> Result<(), Memory>
+    ensures { IfOk result (λ _. IsWithLevel map.old level map.new) }
+{
+    put_level(map, &level)
+}
+
 impl Growing {
     /// The map of level 0.
     ///
@@ -51,11 +58,11 @@ impl Growing {
     /// The map of all levels, after the last one is added.
     ///
     /// Error: `Memory`; the map is dropped then.
-    pub(crate) fn into_map(self, end: &WalkedSparse) -> Result<PatchMap, Memory>
-        ensures { IfOk result (λ map. IsWithLevel self end.now map) }
+    pub(crate) fn into_map(self, end: WalkedSparse) -> Result<PatchMap, Memory>
+        ensures { IfOk result (λ map. IsWithLevel self end map) }
     {
         let mut map = self.map;
-        put_level(&mut map, end)?;
+        take_level(&mut map, end)?;
         Ok(map)
     }
 }
@@ -67,7 +74,6 @@ impl<C: Drop> Visitor<WalkedSparse, C> for Growing {
 
     fn leave(&mut self, level: WalkedSparse, carried: C) -> Result<(), Memory> {
         drop(carried);
-        put_level(&mut self.map, &level)?;
-        Ok(())
+        take_level(&mut self.map, level)
     }
 }

@@ -1,6 +1,9 @@
 //! The levels of a walk that a visitor keeps.
 
-ghost use Rattle.std.specs.Prelude.{◌≡◌, ◌≤◌, [], ◌∷◌, ◌++◌, Some, None, IfOk};
+ghost use Rattle.std.specs.Prelude.{◌≡◌, [], ◌∷◌, ◌++◌, Some, None, IfOk};
+ghost use Rattle.sparse_laws.specs.Written.{written_here};
+ghost use Rattle.sparse_level.specs.View.{level_of};
+ghost use Rattle.sparse_level.specs.Places.{marked};
 ghost use Rattle.sparse_walk.specs.Kept.{kept_so_far, kept_of, last_kept, kept_to};
 
 use crate::walked::WalkedSparse;
@@ -37,6 +40,13 @@ impl<C> Model for Keeping<C> {
     ghost view = { λ k. kept_so_far k.levels.items k.last };
 }
 
+// Returns the faces of a level, with these selected, in the form in which they are written.
+fn faces_with(alloc: Global, level: SparseLevel, selected: &[bool]) -> Result<SparseFaces, Memory>
+    ensures { IfOk result (λ faces. faces ≡ written_here (level_of level) (marked selected.now)) }
+{
+    SparseFaces::of(alloc, &level, selected)
+}
+
 // Adds a level with these selected faces.
 fn put_level<C: Drop>(
     alloc: Global,
@@ -46,8 +56,8 @@ fn put_level<C: Drop>(
 ) -> Result<(), Memory>
     ensures { IfOk result (λ _. levels.new.items ≡ levels.old.items ++ kept_of left selected.now ∷ []) }
 {
-    let (sparse, carried) = left;
-    let faces = SparseFaces::of(alloc, &sparse, selected)?;
+    let (level, carried) = left;
+    let faces = faces_with(alloc, level, selected)?;
     levels.push(KeptLevel { faces, carried })?;
     Ok(())
 }
@@ -68,19 +78,15 @@ fn put_last<C: Drop>(
 }
 
 impl<C: Drop> Keeping<C> {
-    /// Returns a visitor that has kept nothing, with memory for level 0 and for `depth` levels after it, at most 10.
-    ///
-    /// Reports `Memory` where memory runs out.
-    pub fn with_room(alloc: Global, depth: u32) -> Result<Keeping<C>, Memory>
-        requires { depth ≤ 10 }
-        ensures { IfOk result (λ keeping. keeping ≡ kept_so_far [] None) }
+    /// Returns a visitor that has kept nothing. The call takes no memory.
+    pub fn empty(alloc: Global) -> Keeping<C>
+        ensures { result ≡ kept_so_far [] None }
     {
-        let levels = Vec::with_capacity(alloc, depth as usize + 1)?;
-        Ok(Keeping {
+        Keeping {
             alloc,
-            levels,
+            levels: Vec::new(alloc),
             last: None,
-        })
+        }
     }
 
     /// Returns all levels; the last one is `end`, and none of its faces is selected.
@@ -103,14 +109,8 @@ impl<C: Drop> Visitor<WalkedSparse, C> for Keeping<C> {
     ghost Takes = { λ before walked carried after. Keeps before walked carried after };
 
     fn leave(&mut self, level: WalkedSparse, carried: C) -> Result<(), Memory> {
-        put_last(
-            self.alloc,
-            &mut self.levels,
-            self.last.take(),
-            level.before(),
-        )?;
-        let (sparse, _) = level.into_parts();
-        self.last = Some((sparse, carried));
-        Ok(())
+        let (sparse, before) = level.into_parts();
+        let last = self.last.replace((sparse, carried));
+        put_last(self.alloc, &mut self.levels, last, &before)
     }
 }

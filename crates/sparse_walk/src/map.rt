@@ -58,5 +58,5 @@ pub fn map_sparse<T: FaceTest, F: Fn(&FaceFacts) -> bool, L: Ledger>(
         depth,
         steps,
     )?;
-    Ok(growing.into_map(&end.level)?)
+    Ok(growing.into_map(end.level)?)
 }

@@ -53,8 +53,8 @@ pub fn sparse_levels<T: FaceTest, F: Fn(&FaceFacts) -> bool, L: Ledger>(
     ensures steps { AreSparseSteps base.level (T.meets rule.now.1) depth steps.old steps.new }
 {
     base.facts();
-    let mut keeping = Keeping::with_room(alloc, depth)?;
     let level = WalkedSparse::base(alloc, base)?;
+    let mut keeping = Keeping::empty(alloc);
     let start = Reached { level, carried: () };
     let end = walk(
         alloc,

@@ -19,7 +19,7 @@ returns-in_err-end-clause-levels g c =
     handed-on _ c.in_err-end.field-0.0 _ _ c.from_residual-in_err-end.ensures.0 c.from_residual-in_err-end.ensures.1
     (stopped-levels test c.args.base c.args.depth c.most-most.result c.most-most.ensures (scheme_of c.scheme-scheme.result) c.scheme-scheme.ensures _
     (started test c.args.base c.args.depth c.into_level-level.result c.into_level-level.ensures.base c.into_level-level.ensures.level c.facts-2.ensures c.facts.ensures c.most-most.result c.most-most.ensures (scheme_of c.scheme-scheme.result) c.scheme-scheme.ensures _
-    c.in_ok-start.ensures c.in_ok-keeping.ensures)
+    c.in_ok-start.ensures c.empty-keeping.ensures)
     c.in_err-end.field-0.0 c.walk.new.visitor c.walk.new.steps c.in_err-end.ensures).0
 
 pub returns-in_err-end-clause-steps : goal.returns-in_err-end-clause-steps
@@ -27,7 +27,7 @@ returns-in_err-end-clause-steps g c =
     let test = g.T.FaceTest.meets c.args.rule.now.1 in
     (stopped-levels test c.args.base c.args.depth c.most-most.result c.most-most.ensures (scheme_of c.scheme-scheme.result) c.scheme-scheme.ensures _
     (started test c.args.base c.args.depth c.into_level-level.result c.into_level-level.ensures.base c.into_level-level.ensures.level c.facts-2.ensures c.facts.ensures c.most-most.result c.most-most.ensures (scheme_of c.scheme-scheme.result) c.scheme-scheme.ensures _
-    c.in_ok-start.ensures c.in_ok-keeping.ensures)
+    c.in_ok-start.ensures c.empty-keeping.ensures)
     c.in_err-end.field-0.0 c.walk.new.visitor c.walk.new.steps c.in_err-end.ensures).1
 
 pub returns-in_err-into_levels-clause-steps : goal.returns-in_err-into_levels-clause-steps
@@ -35,7 +35,7 @@ returns-in_err-into_levels-clause-steps g c =
     let test = g.T.FaceTest.meets c.args.rule.now.1 in
     all-steps test c.args.base c.args.depth c.most-most.result c.most-most.ensures (scheme_of c.scheme-scheme.result) c.scheme-scheme.ensures _
     (started test c.args.base c.args.depth c.into_level-level.result c.into_level-level.ensures.base c.into_level-level.ensures.level c.facts-2.ensures c.facts.ensures c.most-most.result c.most-most.ensures (scheme_of c.scheme-scheme.result) c.scheme-scheme.ensures _
-    c.in_ok-start.ensures c.in_ok-keeping.ensures)
+    c.in_ok-start.ensures c.empty-keeping.ensures)
     (at c.in_ok-end.end c.walk.new.visitor c.walk.new.steps) c.in_ok-end.ensures
 
 pub returns-clause-levels : goal.returns-clause-levels
@@ -43,7 +43,7 @@ returns-clause-levels g c =
     let test = g.T.FaceTest.meets c.args.rule.now.1 in
     all-composed test c.args.base c.args.depth c.most-most.result c.most-most.ensures (scheme_of c.scheme-scheme.result) c.scheme-scheme.ensures _
     (started test c.args.base c.args.depth c.into_level-level.result c.into_level-level.ensures.base c.into_level-level.ensures.level c.facts-2.ensures c.facts.ensures c.most-most.result c.most-most.ensures (scheme_of c.scheme-scheme.result) c.scheme-scheme.ensures _
-    c.in_ok-start.ensures c.in_ok-keeping.ensures)
+    c.in_ok-start.ensures c.empty-keeping.ensures)
     (at c.in_ok-end.end c.walk.new.visitor c.walk.new.steps) _ c.in_ok-end.ensures c.in_ok-into_levels.ensures
 
 pub returns-clause-steps : goal.returns-clause-steps
@@ -51,5 +51,5 @@ returns-clause-steps g c =
     let test = g.T.FaceTest.meets c.args.rule.now.1 in
     all-steps test c.args.base c.args.depth c.most-most.result c.most-most.ensures (scheme_of c.scheme-scheme.result) c.scheme-scheme.ensures _
     (started test c.args.base c.args.depth c.into_level-level.result c.into_level-level.ensures.base c.into_level-level.ensures.level c.facts-2.ensures c.facts.ensures c.most-most.result c.most-most.ensures (scheme_of c.scheme-scheme.result) c.scheme-scheme.ensures _
-    c.in_ok-start.ensures c.in_ok-keeping.ensures)
+    c.in_ok-start.ensures c.empty-keeping.ensures)
     (at c.in_ok-end.end c.walk.new.visitor c.walk.new.steps) c.in_ok-end.ensures
