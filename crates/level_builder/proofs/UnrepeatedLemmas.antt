@@ -3,7 +3,7 @@ use Rattle.std.proofs.Common.{◌≡◌, ℕ, ◌+◌, ◌<◌, Bool, true, fals
 use Rattle.std.specs.List.{list_all, count_by}
 use Rattle.std.proofs.lemmas.Bool.Decides.{nat_tests}
 use Rattle.std.proofs.lemmas.Bool.{and_parts, and_from, eqb-true}
-use Rattle.subdiv_model.specs.Polygons.{is_among}
+use Rattle.subdiv_model.specs.Polygons.{is_among, is_distinct}
 use Rattle.number_laws.proofs.CountLemmas.{count-cons, one_if}
 use Rattle.level_builder.specs.Keys.{Rises, is_again, unrepeated_after}
 use Rattle.level_builder.proofs.KeyLemmas.{again-count}
@@ -67,6 +67,23 @@ unrepeated-count n xs h = among-unrepeated n false xs h ∙ whole (nat_eq (count
     whole : (b : Bool) → (b && true) ≡ b
     whole true = refl
     whole false = refl
+
+distinct-kept : (keep : Bool) (x : ℕ) (xs : List ℕ) → (keep ≡ true → is_among xs x ≡ false) → is_distinct xs ≡ true → is_distinct (if keep then x ∷ xs else xs) ≡ true
+distinct-kept true x xs apart behind = and_from _ _ (ap not (apart refl)) behind
+distinct-kept false x xs apart behind = behind
+
+-- a number is kept once
+pub unrepeated-distinct : (again : Bool) (xs : List ℕ) → Rises xs → is_distinct (unrepeated_after again xs) ≡ true
+unrepeated-distinct again [] h = refl
+unrepeated-distinct again (x ∷ xs) h =
+    let next = is_again 1 (x ∷ xs) x in
+    distinct-kept (not again && not next) x (unrepeated_after next xs) apart (unrepeated-distinct next xs h.1)
+  where
+    apart : (not again && not (is_again 1 (x ∷ xs) x)) ≡ true → is_among (unrepeated_after (is_again 1 (x ∷ xs) x) xs) x ≡ false
+    apart kept =
+        let behind = among-unrepeated x (is_again 1 (x ∷ xs) x) xs h.1 in
+        let counted = again-count 0 x xs h.0 h.1 in
+        grind (arith, nat_tests)
 
 -- once no number is left, all are found
 pub unrepeated-end : (found rest keys : List ℕ) (again : Bool) → length rest < 1 → found ++ unrepeated_after again rest ≡ unrepeated_after false keys → found ≡ unrepeated_after false keys

@@ -1,8 +1,8 @@
 //! Sides and edges as numbers, and numbers that occur often in a list, found by sorting.
 
-ghost use Rattle.std.specs.Prelude.{◌≡◌, ℕ, nat_eq, nat_lt, ◌&&◌, [], ◌∷◌, ◌++◌, map, IfOk, OnOk, if◌then◌else◌};
+ghost use Rattle.std.specs.Prelude.{◌≡◌, ℕ, nat_eq, nat_lt, ◌&&◌, [], ◌∷◌, ◌++◌, map, IfOk, OnOk, IsTrue, if◌then◌else◌};
 ghost use Rattle.std.specs.List.{count_by};
-ghost use Rattle.subdiv_model.specs.Polygons.{is_among};
+ghost use Rattle.subdiv_model.specs.Polygons.{is_among, is_distinct};
 ghost use Rattle.level_builder.specs.Keys.{IsWord, AreWords, side_key, edge_key, key_by, Rises, is_again, repeats, each_once};
 
 use ratio128::Memory;
@@ -116,11 +116,12 @@ pub fn frequent(alloc: Global, keys: Vec<u64>, limit: usize) -> Result<Vec<u64>,
     Ok(found)
 }
 
-/// Returns the numbers that occur once among ascending numbers. Reports [`Memory`] where memory runs out.
+/// Returns the numbers that occur once among ascending numbers, ascending. Each is listed once. Reports [`Memory`] where memory runs out.
 pub fn unrepeated(alloc: Global, keys: &[u64]) -> Result<Vec<u64>, Memory>
     requires { Rises keys.now }
     ensures rises { IfOk result (λ found. Rises found.items) }
     ensures once { IfOk result (λ found. (n : ℕ) → is_among found.items n ≡ nat_eq (count_by (nat_eq n) keys.now) 1) }
+    ensures distinct { IfOk result (λ found. IsTrue (is_distinct found.items)) }
 {
     let mut found = Vec::new(alloc);
     let mut again = false;
