@@ -1,6 +1,6 @@
 //! The faces of a part, with the numbers of their edges and their marks.
 
-ghost use Rattle.std.specs.Prelude.{◌≡◌, ◌+◌, ◌<◌, ◌≤◌, ◌^◌, true, length, map, IfOk};
+ghost use Rattle.std.specs.Prelude.{◌≡◌, ◌+◌, ◌<◌, ◌≤◌, ◌^◌, true, length, map, IfOk, OnOk};
 ghost use Rattle.std.specs.List.{All};
 ghost use Rattle.subdiv_model.specs.Polygons.{is_among};
 ghost use Rattle.level_topology.specs.ChildTables.{place_of};
@@ -80,6 +80,7 @@ pub(crate) fn faces_of<P: ChildPoints, L: Ledger>(
     ensures put { IfOk result (λ faces. faces ≡ first_faces (level_in shape.now) (part_in P.has P.number shape.now) (length shape.now.places.now)) }
     ensures steps { steps.new ≤ steps.old + length shape.now.places.now }
     ensures later { steps.old ≤ steps.new }
+    ensures taken { OnOk result (steps.new ≡ steps.old + length shape.now.places.now) }
 {
     let count = shape.places.len() as u32;
     let mut faces = PackedLists::with_limits(alloc, count, 4 * count)?;

@@ -1,6 +1,6 @@
 //! The next sparse level, without the tables that connect it to its parent.
 
-ghost use Rattle.std.specs.Prelude.{◌≡◌, ◌+◌, ◌≤◌, length, map, IfOk};
+ghost use Rattle.std.specs.Prelude.{◌≡◌, ◌+◌, ◌≤◌, length, map, IfOk, OnOk};
 ghost use Rattle.subdiv_model.specs.Polygons.{is_among};
 ghost use Rattle.sharpness_rules.specs.View.{sharpness_of};
 ghost use Rattle.child_slots.specs.HalfTable.{HasHalves};
@@ -50,6 +50,7 @@ pub(crate) fn next_level<L: Ledger>(
     ensures level { IfOk result (λ next. IsNextLevel sparse.now.topology (selected_by present.now) next) }
     ensures steps { steps.new ≤ steps.old + length present.now.places.items }
     ensures later { steps.old ≤ steps.new }
+    ensures taken { OnOk result (steps.new ≡ steps.old + length present.now.places.items) }
 {
     let level = sparse.level();
     sparse.facts();

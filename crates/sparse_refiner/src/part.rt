@@ -1,6 +1,6 @@
 //! The level of a part of the next level, from its numbered edges.
 
-ghost use Rattle.std.specs.Prelude.{◌≡◌, ◌+◌, ◌≤◌, ◌^◌, length, map, IfOk};
+ghost use Rattle.std.specs.Prelude.{◌≡◌, ◌+◌, ◌≤◌, ◌^◌, length, map, IfOk, OnOk};
 ghost use Rattle.sharpness_rules.specs.View.{sharpness_of};
 ghost use Rattle.subdiv_model.specs.Child.{child_level};
 ghost use Rattle.part_laws.specs.LevelParts.{IsLevelPart};
@@ -43,6 +43,7 @@ pub fn part_level<P: ChildPoints, L: Ledger>(
     ensures complete { IfOk result (λ next. next.complete ≡ complete.items) }
     ensures steps { steps.new ≤ steps.old + length shape.now.places.now }
     ensures later { steps.old ≤ steps.new }
+    ensures taken { OnOk result (steps.new ≡ steps.old + length shape.now.places.now) }
 {
     shape.level.facts();
     let tables = tables_of(alloc, shape, &edges, halves, steps)?;

@@ -1,6 +1,6 @@
 //! The next sparse level.
 
-ghost use Rattle.std.specs.Prelude.{◌≡◌, ◌+◌, ◌^◌, ◌<◌, ◌≤◌, length, map, IfOk, MatchResult};
+ghost use Rattle.std.specs.Prelude.{◌≡◌, ◌+◌, ◌^◌, ◌<◌, ◌≤◌, length, map, IfOk, OnOk, MatchResult};
 ghost use Rattle.subdiv_model.specs.Polygons.{is_among};
 ghost use Rattle.feature_select.specs.Rule.{AnswersTest};
 ghost use Rattle.sharpness_rules.specs.View.{sharpness_of};
@@ -38,6 +38,7 @@ fn refine_halved<L: Ledger>(
     ensures selected { IfOk result (λ step. step.selected ≡ present.selected.items) }
     ensures steps { steps.new ≤ steps.old + length present.places.items }
     ensures later { steps.old ≤ steps.new }
+    ensures taken { OnOk result (steps.new ≡ steps.old + length present.places.items) }
 {
     let next = next_level(alloc, sparse, &present, points, halves, steps)?;
     step_of(alloc, sparse, present, points, next)
@@ -58,6 +59,7 @@ fn refine_numbered<L: Ledger>(
     ensures selected { IfOk result (λ step. step.selected ≡ present.selected.items) }
     ensures steps { steps.new ≤ steps.old + length present.places.items }
     ensures later { steps.old ≤ steps.new }
+    ensures taken { OnOk result (steps.new ≡ steps.old + length present.places.items) }
 {
     sparse.level().facts();
     let halves = halves_at(alloc, sparse.level(), points)?;
@@ -78,6 +80,7 @@ fn refine_present<L: Ledger>(
     ensures selected { IfOk result (λ step. step.selected ≡ present.selected.items) }
     ensures steps { steps.new ≤ steps.old + length present.places.items }
     ensures later { steps.old ≤ steps.new }
+    ensures taken { OnOk result (steps.new ≡ steps.old + length present.places.items) }
 {
     sparse.level().facts();
     let points = number_points(alloc, sparse.level(), &present.places)?;
@@ -102,6 +105,7 @@ pub fn refine_selected<T: FaceTest, F: Fn(&FaceFacts) -> bool, L: Ledger>(
     ensures sparse { (of : SparseOf (T.meets chosen.now.1) sparse.now) → IfOk result (IsNextOf of) }
     ensures steps { steps.new ≤ steps.old + length (places_for (T.meets chosen.now.1) sparse.now) }
     ensures later { steps.old ≤ steps.new }
+    ensures taken { OnOk result (steps.new ≡ steps.old + length (places_for (T.meets chosen.now.1) sparse.now)) }
     ensures early { 2 ^ 22 < length (places_for (T.meets chosen.now.1) sparse.now) → steps.new ≡ steps.old }
 {
     sparse.level().facts();

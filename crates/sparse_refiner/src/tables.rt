@@ -1,6 +1,6 @@
 //! The tables of a part of the next level.
 
-ghost use Rattle.std.specs.Prelude.{◌≡◌, ◌+◌, ◌≤◌, ◌^◌, length, map, IfOk};
+ghost use Rattle.std.specs.Prelude.{◌≡◌, ◌+◌, ◌≤◌, ◌^◌, length, map, IfOk, OnOk};
 ghost use Rattle.sharpness_rules.specs.View.{sharpness_of};
 ghost use Rattle.child_slots.specs.Walked.{ArePartEdges};
 ghost use Rattle.sparse_refiner.specs.Shapes.{level_in, part_in};
@@ -39,6 +39,7 @@ pub(crate) fn tables_of<P: ChildPoints, L: Ledger>(
     ensures tables { IfOk result (ArePartTables (level_in shape.now) (part_in P.has P.number shape.now) edges.now.slots shape.now.names.now (map sharpness_of halves.now)) }
     ensures steps { steps.new ≤ steps.old + length shape.now.places.now }
     ensures later { steps.old ≤ steps.new }
+    ensures taken { OnOk result (steps.new ≡ steps.old + length shape.now.places.now) }
 {
     let holes = hole_marks(alloc, shape.level, shape.places)?;
     let edge_sharpness = edge_sharpness(alloc, edges, halves)?;

@@ -1,4 +1,4 @@
-use Rattle.std.proofs.Common.{◌∙◌, ap, length, arith}
+use Rattle.std.proofs.Common.{◌≡◌, ◌+◌, ◌∙◌, ℕ, ap, length, arith, subst, OnOk}
 use Rattle.std.proofs.lemmas.List.{length-map}
 use Rattle.level_topology.specs.ChildTables.{place_of}
 use Rattle.sparse_refiner.proofs.StepLemmas.{handed-on, marks-inner, refusal-is, answer-is, next-answer, steps-are}
@@ -24,6 +24,11 @@ returns-clause-sparse g c = λ of.
 pub returns-clause-steps : goal.returns-clause-steps
 returns-clause-steps g c =
     omega (arith, c.refine_present.ensures.steps, steps-are (g.T.FaceTest.meets c.args.chosen.now.1) c.args.sparse.now c.in_ok-selected.selected.items c.in_ok-selected.ensures c.in_ok-present.present c.in_ok-present.ensures.0 c.in_ok-present.ensures.1)
+
+pub returns-clause-taken : goal.returns-clause-taken
+returns-clause-taken g c =
+    let at = c.in_ok-present in
+    subst (λ (n : ℕ). OnOk c.refine_present.result (c.refine_present.new.steps ≡ c.args.steps.now + n)) (steps-are (g.T.FaceTest.meets c.args.chosen.now.1) c.args.sparse.now c.in_ok-selected.selected.items c.in_ok-selected.ensures at.present at.ensures.0 at.ensures.1) c.refine_present.ensures.taken
 
 pub returns-clause-early : goal.returns-clause-early
 returns-clause-early g c = λ many.
