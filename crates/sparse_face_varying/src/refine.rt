@@ -1,6 +1,6 @@
 //! Sparse levels of a texture channel at faces that are selected by number.
 
-ghost use Rattle.std.specs.Prelude.{◌≡◌, ◌+◌, ◌<◌, ◌≤◌, length, map, IfOk, MatchResult};
+ghost use Rattle.std.specs.Prelude.{◌≡◌, ◌+◌, ◌^◌, ◌<◌, ◌≤◌, length, map, IfOk, MatchResult};
 ghost use Rattle.std.specs.List.Sorted.{IsStrictlyIncreasing};
 ghost use Rattle.channel_refine.specs.Evaluated.{control_rows};
 ghost use Rattle.channel_refine.specs.Refined.{AreControls};
@@ -41,6 +41,7 @@ pub fn refine_like<L: Ledger>(
     ensures sparse { (of : SparseOf (is_chosen numbers.now) channel.now) → IfOk result (IsNextOf of) }
     ensures steps { steps.new ≤ steps.old + length (places_for (is_chosen numbers.now) channel.now) }
     ensures later { steps.old ≤ steps.new }
+    ensures early { 2 ^ 22 < length (places_for (is_chosen numbers.now) channel.now) → steps.new ≡ steps.old }
 {
     let rule = SelectRule::with(Chosen { numbers }, |facts: &FaceFacts| {
         is_chosen(numbers, facts)

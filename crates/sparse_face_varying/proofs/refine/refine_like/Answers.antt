@@ -1,4 +1,4 @@
-use Rattle.std.proofs.Common.{◌+◌, ◌≤◌, Bool, length, IfOk, MatchResult, subst}
+use Rattle.std.proofs.Common.{◌≡◌, ◌+◌, ◌^◌, ◌<◌, ◌≤◌, Bool, length, IfOk, MatchResult, subst}
 use Rattle.subdiv_model.specs.Feature.{FaceFacts}
 use Rattle.sparse_refiner.specs.Refined.{IsNextOf, IsRefined, IsRefusal, SparseOf, places_for}
 use Rattle.sparse_face_varying.proofs.RefineLemmas.{rule-test}
@@ -15,3 +15,7 @@ returns-clause-sparse g c =
 pub returns-clause-steps : goal.returns-clause-steps
 returns-clause-steps g c =
     subst (λ (test : FaceFacts → Bool). c.refine_selected.new.steps ≤ c.args.steps.now + length (places_for test c.args.channel.now)) (rule-test c.with-rule.result _ c.args.numbers c.with-rule.ensures.rule) c.refine_selected.ensures.steps
+
+pub returns-clause-early : goal.returns-clause-early
+returns-clause-early g c =
+    subst (λ (test : FaceFacts → Bool). 2 ^ 22 < length (places_for test c.args.channel.now) → c.refine_selected.new.steps ≡ c.args.steps.now) (rule-test c.with-rule.result _ c.args.numbers c.with-rule.ensures.rule) c.refine_selected.ensures.early
