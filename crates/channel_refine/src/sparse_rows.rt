@@ -52,6 +52,7 @@ pub(crate) fn evaluate_rows<P: Primvar<L>, L: Ledger>(
     requires can { CanEvaluate table.now (map P.numbers controls.now) }
     requires has_rows { HasRows table.now rows.now }
     ensures values { IfOk result (λ values. rows_of P.numbers values.items ≡ evaluated (rows_at table.now rows.now) (map P.numbers controls.now)) }
+    ensures taken { OnOk result (steps.new ≡ steps.old + entries_of (rows_at table.now rows.now).rows) }
     ensures steps { steps.new ≤ steps.old + entries_of (rows_at table.now rows.now).rows }
     ensures later { steps.old ≤ steps.new }
 {
