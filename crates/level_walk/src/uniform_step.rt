@@ -32,7 +32,7 @@ pub fn with_cause<T>(made: Result<T, RefineFault>) -> Result<T, Cause>
     }
 }
 
-/// The step to the whole next level. Each of its faces is one step of the counter.
+/// The step to the whole next level. Each of its faces is at most one step of the counter.
 ///
 /// Reports `TooManyFaces` with the number of faces where the next level would have more than 2^22. Reports `Overflow` of the
 /// kind `Chaikin` where halves of edges overflow, and `Memory` where memory runs out.

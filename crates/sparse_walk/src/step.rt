@@ -11,7 +11,7 @@ use std::alloc::Global;
 use std::sync::ledger::Ledger;
 
 /// The step to the present part of the next level: the child faces at the vertices of the faces that a rule selects. Each
-/// present face is one step of the counter.
+/// present face is at most one step of the counter.
 ///
 /// Reports `TooManyFaces` with the number of present faces where that is above 2^22. Reports `Overflow` of the kind `Chaikin`
 /// where halves of edges overflow, and `Memory` where memory runs out.
