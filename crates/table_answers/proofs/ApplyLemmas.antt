@@ -23,6 +23,7 @@ use Rattle.primvar_refine.specs.View.{rows_of}
 use Rattle.stencil_factory.specs.Rows.{share_sum, row_values, AreSameValues}
 use Rattle.channel_refine.specs.Evaluated.{CanEvaluate}
 use Rattle.channel_refine.specs.Evaluated as evaluation
+use Rattle.channel_refine.proofs.ValueLemmas.{dens-of-rows}
 use Rattle.far_text.specs.Lines.{valued_line}
 use Rattle.far_text.specs.Points.{CanBeWritten, HasDenominators, point_of, points_of}
 use Rattle.far_text.specs.declared.reply.Reply.{Reply}
@@ -33,8 +34,8 @@ use Rattle.far_fault.specs.View.{fault_of}
 use Rattle.far_fault.specs.declared.fault.FarFault.{FarFault}
 use Rattle.mesh_answers.specs.Refusals.{IsFound}
 use Rattle.mesh_answers.proofs.PointLemmas.{numbers}
-use Rattle.mesh_answers.proofs.PointTableLemmas.{IsPointTable, can-evaluate-points, can-write, same-as-values, value-denominators}
-use Rattle.table_answers.specs.Answers.{IsAnswerOf, IsEvaluable, IsReplyOf, IsStoredAnswer, answer_behind, entries_read, evaluated}
+use Rattle.mesh_answers.proofs.PointTableLemmas.{IsPointTable, can-evaluate-points, can-write, dens-are, same-as-values, value-denominators}
+use Rattle.table_answers.specs.Answers.{IsAnswerOf, IsEvaluable, IsOver, IsOverRead, IsReplyOf, IsStoredAnswer, answer_behind, entries_read, evaluated}
 
 pub unless-refusal : (fault : Option Fault) (text : List ℕ) → (answer_unless fault text).refusal ≡ fault
 unless-refusal None text = refl
@@ -114,6 +115,13 @@ module _ (table : Table) (mesh : ObjMesh) (is : IsEvaluable table mesh) where
       answer-is : evaluated table mesh ≡ record { text = points_text table mesh; refusal = None }
       answer-is = ap (λ fault. answer_unless fault (points_text table mesh)) is.good
 
+      -- the points are over the denominators of the table and the common one of the mesh
+      pub over-is : (reply : TablePoints) → reply.values.items ≡ values → reply.common ≡ mesh.common → IsOver table mesh (Points reply)
+      over-is reply same over = (
+        ap (λ list. map (λ value. value.den) list) same ∙ dens-of-rows numbers values ∙ dens-are mesh value_of table point-table points said values made,
+        over,
+      )
+
       pub reply-is : (reply : TablePoints) → reply.values.items ≡ values → reply.common ≡ mesh.common → IsReplyOf (evaluated table mesh) (Points reply)
       reply-is reply same over = record {
         good = ap (λ (a : Answer). a.refusal) answer-is;
@@ -125,13 +133,13 @@ module _ (table : Table) (mesh : ObjMesh) (is : IsEvaluable table mesh) where
         put = subst (λ n. All (CanBeWritten n) reply.values.items) (sym over) (subst (All (CanBeWritten mesh.common)) (sym same) written);
       }
 
-  -- if the values were found, they are the reply
-  pub points-replied : {X E : Type 0} (found : Result X E) (r : Result Reply E) (made : X → TablePoints) (P : X → Type 0)
-      → MatchResult found (λ x. IsOkAnd r (λ reply. reply ≡ Points (made x))) (λ fault. r ≡ Err fault) → IfOk found P
-      → ((x : X) → P x → IsReplyOf (evaluated table mesh) (Points (made x))) → IfOk r (IsReplyOf (evaluated table mesh))
-  points-replied (Ok x) (Ok reply) made P same p answers = subst (IsReplyOf (evaluated table mesh)) (sym same) (answers x p)
-  points-replied (Ok x) (Err fault) made P same p answers = absurd same
-  points-replied (Err fault) r made P same p answers = subst (λ r. IfOk r (IsReplyOf (evaluated table mesh))) (sym same) tt
+-- if the values were found, they are the reply, with what they say of it
+pub points-replied : {X E : Type 0} (Q : Reply → Type 0) (found : Result X E) (r : Result Reply E) (made : X → TablePoints) (P : X → Type 0)
+    → MatchResult found (λ x. IsOkAnd r (λ reply. reply ≡ Points (made x))) (λ fault. r ≡ Err fault) → IfOk found P
+    → ((x : X) → P x → Q (Points (made x))) → IfOk r Q
+points-replied Q (Ok x) (Ok reply) made P same p answers = subst Q (sym same) (answers x p)
+points-replied Q (Ok x) (Err fault) made P same p answers = absurd same
+points-replied Q (Err fault) r made P same p answers = subst (λ r. IfOk r Q) (sym same) tt
 
 -- the evaluation takes a step for each entry
 pub points-taken : {X Y E : Type 0} (table : Table) (found : Result X E) (r : Result Y E) (Made : X → Y → Type 0) (old new : ℕ)
@@ -154,12 +162,14 @@ module _ (table : Table) (text : List ℕ) where
 
 -- The answer to an input is that to the text behind its table.
 pub behind-table : (bytes : List ℕ) (table : Table) (rest text : List ℕ) (r : Result Reply FarFault) (old new : ℕ) → read_table bytes ≡ Ok (record { table = table; rest = rest }) → text ≡ rest
-    → IsAnswerOf (answer_behind table text) r → StepsTaken r old new (entries_of table.rows) (entries_of table.rows) → IsStoredAnswer Apply bytes r old new
-behind-table bytes table rest text r old new read same found taken =
+    → IsAnswerOf (answer_behind table text) r → IfOk r (IsOver table (read_obj_mesh text 0)) → StepsTaken r old new (entries_of table.rows) (entries_of table.rows)
+    → IsStoredAnswer Apply bytes r old new
+behind-table bytes table rest text r old new read same found over taken =
     let reading : Result Reading TableFault = Ok (record { table = table; rest = text }) in
     let here : read_table bytes ≡ reading = read ∙ ap (λ (t : List ℕ). Ok (record { table = table; rest = t })) (sym same) in
     record {
       reply = subst (λ x. IsAnswerOf (answer_of_apply x) r) (sym here) found;
+      numbers = subst (λ x. IfOk r (IsOverRead x)) (sym here) over;
       steps = subst (λ x. StepsTaken r old new (entries_read x) (entries_read x)) (sym here) taken;
     }
 
@@ -169,5 +179,6 @@ pub no-table : (bytes : List ℕ) (r : Result Reply FarFault) (fault : FarFault)
 no-table bytes (Ok reply) fault steps err same found = absurd (cc)
 no-table bytes (Err other) fault steps err same found = record {
   reply = subst (λ f. IsFound (fault_of f) (answer_of_apply (read_table bytes)).refusal) (sym same) found;
+  numbers = tt;
   steps = record { least = tt; most = omega arith; later = omega arith };
 }

@@ -1,5 +1,5 @@
 -- The results of comparing a stored table with the table of the mesh before it.
-use Rattle.std.proofs.Common.{◌≡◌, ℕ, suc, ◌+◌, ◌≤◌, Bool, false, cond, nat_eq, List, length, drop, Option, Some, None, option_map, Result, Ok, Err, IsErr, IsErrAnd, MatchResult, arith, refl, ap, sym, subst, ◌∙◌}
+use Rattle.std.proofs.Common.{◌≡◌, ℕ, suc, ◌+◌, ◌≤◌, Bool, false, cond, nat_eq, List, length, drop, Option, Some, None, option_map, Result, Ok, Err, IsErr, IsErrAnd, IfOk, MatchResult, arith, refl, ap, sym, subst, ◌∙◌}
 use Rattle.std.specs.Option.{option_or}
 use Rattle.std.proofs.lemmas.Bool.Decides.{nat_tests}
 use Rattle.std.proofs.lemmas.List.{drop_all, length-drop}
@@ -25,7 +25,7 @@ use Rattle.mesh_answers.specs.Tables.{IsComposedOf}
 use Rattle.mesh_answers.proofs.TableLemmas.{table-own}
 use Rattle.mesh_answers.proofs.TextLemmas.{composition-refusal}
 use Rattle.mesh_answers.specs.StepCounts.{level_faces_to}
-use Rattle.table_answers.specs.Answers.{IsAnswerOf, IsOwn, IsReplyOf, IsWhole, compared, text_mesh}
+use Rattle.table_answers.specs.Answers.{HasNumbers, IsAnswerOf, IsOwn, IsReplyOf, IsWhole, compared, text_mesh}
 use Rattle.table_answers.specs.Place.{IsTablePlace}
 use Rattle.table_answers.specs.declared.place.TablePlace.{TablePlace}
 
@@ -134,6 +134,14 @@ module _ (bytes : List ℕ) (depth : ℕ) (place : TablePlace) (at : IsTablePlac
         → IsAnswerOf (compared other table) r → IsAnswerOf answer r
     compared-answer stored other r part whole found =
         subst (λ a. IsAnswerOf a r) (ap (compared other) own-is ∙ sym (compared-is stored other part whole)) found
+
+    pub agreement-rows : (r : Result Reply FarFault) → IfOk r (λ reply. reply ≡ Agreement (length table.rows)) → IfOk r (HasNumbers (Verify depth) bytes)
+    agreement-rows r rows = subst (λ (t : tables.Table). IfOk r (λ reply. reply ≡ Agreement (length t.rows))) own-is rows
+
+-- a fault has no numbers of a reply
+pub no-numbers : {X : Type 0} (P : X → Type 0) (r : Result X FarFault) → IsErr r → IfOk r P
+no-numbers P (Ok x) err = absurd (cc)
+no-numbers P (Err fault) err = tt
 
 -- The steps of a comparison are those of composing the table.
 pub verify-steps : {T E : Type 0} (r : Result T E) (bytes text : List ℕ) (depth old new : ℕ) → obj_lines text ≡ mesh_part bytes → old ≤ new

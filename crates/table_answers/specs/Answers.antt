@@ -1,5 +1,5 @@
 -- The answer of a command to an input with a stored table: a reply or a fault, within the bounds of steps.
-use Rattle.std.specs.Prelude.{ℕ, ◌≡◌, ◌*◌, ◌≤◌, max, List, [], length, None, option_map, Result, Ok, Err, MatchResult, drop}
+use Rattle.std.specs.Prelude.{ℕ, ◌≡◌, ◌*◌, ◌≤◌, max, List, [], length, map, None, option_map, Result, Ok, Err, IfOk, MatchResult, drop}
 use Rattle.subdiv_model.specs.Fault.{Differs}
 use Rattle.subdiv_model.specs.ObjMesh.{ObjMesh}
 use Rattle.subdiv_model.specs.ReadObj.{obj_lines, mesh_of_lines, read_obj_fault, read_obj_mesh}
@@ -12,11 +12,13 @@ use Rattle.far_model.specs.Answer.{answer_of_apply, answer_of_stored_text, compo
 use Rattle.far_model.specs.Command.{StoredCommand, Verify, Apply}
 use Rattle.far_model.specs.Refusal.{Answer, answer_unless}
 use Rattle.far_model.specs.Stored.{control_fault, evaluation_fault, first_difference, points_text, stored_fault}
+use Rattle.stencil_factory.specs.Rows.{dens_of}
 use Rattle.table_file.specs.Read.{TableRead}
 use Rattle.ratio128.specs.StepsTaken.{StepsTaken}
 use Rattle.far_text.specs.Reply.{CanPut, reply_text}
 use Rattle.far_text.specs.Stored.{agreement_line}
 use Rattle.far_text.specs.declared.reply.Reply.{Reply}
+use Rattle.far_text.specs.declared.reply.Reply.TheVariants.{Agreement, Points}
 use Rattle.far_fault.specs.View.{fault_of}
 use Rattle.far_fault.specs.declared.fault.FarFault.{FarFault}
 use Rattle.mesh_answers.specs.MeshText.{IsMeshText}
@@ -48,9 +50,25 @@ pub record IsReplyOf (answer : Answer) (reply : Reply) : Type 0 where
 abbrev pub IsAnswerOf : Answer → Result Reply FarFault → Type 0
 IsAnswerOf answer result = MatchResult result (IsReplyOf answer) (λ fault. IsFound (fault_of fault) answer.refusal)
 
+-- the reply has points over the denominators of the table's rows and the common one of the mesh
+abbrev pub IsOver : Table → ObjMesh → Reply → Type 0
+IsOver table mesh (Points points) = (map (λ value. value.den) points.values.items ≡ dens_of table) × (points.common ≡ mesh.common)
+IsOver table mesh other = ⊥
+
+-- the same for the table that an input begins with, and the mesh of the text behind it
+abbrev pub IsOverRead : Result Reading TableFault → Reply → Type 0
+IsOverRead (Ok reading) reply = IsOver reading.table (read_obj_mesh reading.rest 0) reply
+IsOverRead (Err fault) reply = ⊥
+
+-- the reply of `verify` has the number of rows of the mesh's table, and that of `apply` has points over the denominators of its table
+abbrev pub HasNumbers : StoredCommand → List ℕ → Reply → Type 0
+HasNumbers (Verify depth) bytes reply = reply ≡ Agreement (length (model.own_table depth (mesh_before_table bytes)).rows)
+HasNumbers Apply bytes reply = IsOverRead (read_table bytes) reply
+
 -- a reply of the command, or its refusal, within the bounds of steps
 pub record IsStoredAnswer (command : StoredCommand) (bytes : List ℕ) (result : Result Reply FarFault) (old new : ℕ) : Type 0 where
   pub reply : IsAnswerOf (answer_of_stored_text command bytes) result
+  pub numbers : IfOk result (HasNumbers command bytes)
   pub steps : StepsTaken result old new (stored_least command bytes) (stored_limit command bytes)
 
 -- the mesh of an OBJ text

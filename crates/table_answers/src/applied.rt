@@ -5,10 +5,11 @@ ghost use Rattle.far_model.specs.Command.{Apply};
 ghost use Rattle.far_model.specs.Stored.{evaluation_fault};
 ghost use Rattle.far_fault.specs.View.{fault_of};
 ghost use Rattle.far_text.specs.declared.reply.Reply.TheVariants as variant;
+ghost use Rattle.subdiv_model.specs.ReadObj.{read_obj_mesh};
 ghost use Rattle.mesh_answers.specs.Refusals.{IsFound};
 ghost use Rattle.ratio128.specs.StepsTaken.{StepsTaken};
 ghost use Rattle.stencil_apply.specs.Table.{entries_of};
-ghost use Rattle.table_answers.specs.Answers.{IsAnswerOf, IsControlMesh, IsEvaluable, IsFirstTable, IsReplyOf, IsStoredAnswer, answer_behind, evaluated};
+ghost use Rattle.table_answers.specs.Answers.{IsAnswerOf, IsControlMesh, IsEvaluable, IsFirstTable, IsOver, IsReplyOf, IsStoredAnswer, answer_behind, evaluated};
 
 use channel_refine::evaluate;
 use far_fault::{FarFault, Track};
@@ -86,6 +87,7 @@ fn points_reply<L: Ledger>(
 ) -> Result<Reply, Memory>
     requires { IsEvaluable table mesh.now }
     ensures reply { IfOk result (λ reply. IsReplyOf (evaluated table mesh.now) reply) }
+    ensures over { IfOk result (IsOver table mesh.now) }
     ensures steps { StepsTaken result steps.old steps.new (entries_of table.rows) (entries_of table.rows) }
 {
     mesh.facts();
@@ -104,6 +106,7 @@ fn table_points<L: Ledger>(
 ) -> Result<Reply, FarFault>
     requires { length mesh.now.points ≤ 2 ^ 29 }
     ensures reply { IsAnswerOf (evaluated table mesh.now) result }
+    ensures over { IfOk result (IsOver table mesh.now) }
     ensures steps { StepsTaken result steps.old steps.new (entries_of table.rows) (entries_of table.rows) }
 {
     let table = evaluable(table, mesh)?;
@@ -119,6 +122,7 @@ fn answer_read<L: Ledger>(
 ) -> Result<Reply, FarFault>
     requires { length text.now ≤ 2 ^ 28 }
     ensures reply { IsAnswerOf (answer_behind read.table text.now) result }
+    ensures over { IfOk result (IsOver read.table (read_obj_mesh text.now 0)) }
     ensures steps { StepsTaken result steps.old steps.new (entries_of read.table.rows) (entries_of read.table.rows) }
 {
     let table = read.into_table();

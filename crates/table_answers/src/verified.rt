@@ -1,7 +1,8 @@
 //! The comparison of a stored table with the table of the mesh before it.
 
-ghost use Rattle.std.specs.Prelude.{◌≡◌, ℕ, ◌^◌, ◌≤◌, List, [], length, drop, Ok};
+ghost use Rattle.std.specs.Prelude.{◌≡◌, ℕ, ◌^◌, ◌≤◌, List, [], length, drop, Ok, IfOk};
 ghost use Rattle.far_model.specs.Command.{Verify};
+ghost use Rattle.far_text.specs.declared.reply.Reply.TheVariants.{Agreement};
 ghost use Rattle.ratio128.specs.StepsTaken.{StepsTaken};
 ghost use Rattle.subdiv_model.specs.ReadTable.{read_table};
 ghost use Rattle.mesh_answers.specs.StepCounts.{level_faces_to};
@@ -74,7 +75,8 @@ fn stored_table(alloc: Global, text: &[u8], lines: u32) -> Result<StencilTable, 
 
 // The answer of the comparison of a stored table with the table of the mesh.
 fn compare(stored: &StencilTable, own: &StencilTable) -> Result<Reply, FarFault>
-    ensures { IsAnswerOf (compared stored.now own.now) result }
+    ensures answer { IsAnswerOf (compared stored.now own.now) result }
+    ensures rows { IfOk result (λ reply. reply ≡ Agreement (length own.now.rows)) }
 {
     match first_difference(stored, own) {
         None => Ok(Reply::Agreement { rows: own.rows() }),
@@ -84,7 +86,8 @@ fn compare(stored: &StencilTable, own: &StencilTable) -> Result<Reply, FarFault>
 
 // The answer of the comparison. The function drops both tables.
 fn compare_and_drop(stored: StencilTable, own: StencilTable) -> Result<Reply, FarFault>
-    ensures { IsAnswerOf (compared stored own) result }
+    ensures answer { IsAnswerOf (compared stored own) result }
+    ensures rows { IfOk result (λ reply. reply ≡ Agreement (length own.rows)) }
 {
     let answer = compare(&stored, &own);
     // The prover proves a named drop once for each type.
