@@ -1,5 +1,5 @@
 -- The results of evaluating a stored table over the points of the text behind it.
-use Rattle.std.proofs.Common.{◌≡◌, ◌≢◌, ℕ, zero, suc, ◌+◌, ◌*◌, ◌<◌, ◌≤◌, not, ℤ, pos, ◌+ℤ◌, ◌*ℤ◌, List, [], ◌∷◌, ◌++◌, map, get_or, Option, Some, None, Result, Ok, Err, IsErr, IsErrAnd, IsOkAnd, IfOk, OnOk, MatchResult, arith, refl, ap, sym, subst, ◌∙◌}
+use Rattle.std.proofs.Common.{◌≡◌, ℕ, zero, suc, ◌+◌, ◌<◌, ◌≤◌, ℤ, pos, ◌+ℤ◌, ◌*ℤ◌, List, [], ◌∷◌, ◌++◌, map, get_or, Option, Some, None, Result, Ok, Err, IsErr, IsErrAnd, IsOkAnd, IfOk, OnOk, MatchResult, arith, refl, ap, sym, subst, ◌∙◌}
 use Rattle.std.specs.List.{All, AllByRecursion, flat_map}
 use Rattle.std.proofs.lemmas.List.Elements.{recursion_from_All}
 use Rattle.subdiv_model.specs.Fault.{Fault}
@@ -25,7 +25,7 @@ use Rattle.channel_refine.specs.Evaluated.{CanEvaluate}
 use Rattle.channel_refine.specs.Evaluated as evaluation
 use Rattle.channel_refine.proofs.ValueLemmas.{dens-of-rows}
 use Rattle.far_text.specs.Lines.{valued_line}
-use Rattle.far_text.specs.Points.{CanBeWritten, HasDenominators, point_of, points_of}
+use Rattle.far_text.specs.Points.{CanBeWritten, HasDenominators, points_of}
 use Rattle.far_text.specs.declared.reply.Reply.{Reply}
 use Rattle.far_text.specs.declared.reply.Reply.TheVariants.{Points}
 use Rattle.far_text.specs.declared.stored.TablePoints.{TablePoints}

@@ -10,6 +10,7 @@ use Rattle.subdiv_model.specs.ReadTable.{Reading, read_table}
 use Rattle.subdiv_model.specs.Table as tables
 use Rattle.subdiv_model.specs.TableFault.{Form, TableFault}
 use Rattle.far_model.specs.Answer.{answer_of_verify, composition_refusal, mesh_before_table, own_table}
+use Rattle.far_model.specs.Command.{Verify}
 use Rattle.far_model.specs.Refusal.{Answer, answer_unless}
 use Rattle.far_model.specs.Stored.{first_difference, line_count, mesh_part, stored_fault, table_fault_behind, table_part}
 use Rattle.ratio128.specs.StepsTaken.{StepsTaken}

@@ -1,4 +1,4 @@
-use Rattle.std.proofs.Common.{sym, subst, ◌∙◌}
+use Rattle.std.proofs.Common.{sym, subst}
 use Rattle.far_model.specs.Answer.{composition_refusal}
 use Rattle.subdiv_model.specs.ReadObj.{obj_lines}
 use Rattle.far_fault.specs.View.{fault_of}
