@@ -55,7 +55,7 @@ abbrev pub IsOver : Table → ObjMesh → Reply → Type 0
 IsOver table mesh (Points points) = (map (λ value. value.den) points.values.items ≡ dens_of table) × (points.common ≡ mesh.common)
 IsOver table mesh other = ⊥
 
--- the same for the table that an input begins with, and the mesh of the text behind it
+-- the table that an input begins with was read, and the reply has points over its denominators and the common one of the text behind it
 abbrev pub IsOverRead : Result Reading TableFault → Reply → Type 0
 IsOverRead (Ok reading) reply = IsOver reading.table (read_obj_mesh reading.rest 0) reply
 IsOverRead (Err fault) reply = ⊥
