@@ -1,6 +1,6 @@
 //! The sparse levels of a channel with their tables.
 
-ghost use Rattle.std.specs.Prelude.{◌≤◌, IfOk, MatchResult};
+ghost use Rattle.std.specs.Prelude.{◌≡◌, ◌≤◌, Err, IfOk, IsOkAnd, MatchResult};
 ghost use Rattle.feature_select.specs.Rule.{AnswersTest};
 ghost use Rattle.channel_refine.specs.Base.{IsBase};
 ghost use Rattle.channel_refine.specs.SparseComposed.{AreComposedTo, AreComposeSteps};
@@ -19,15 +19,28 @@ use std::sync::ledger::Ledger;
 use stencil_apply::StencilTable;
 use stencil_factory::identity;
 
+// Returns a level with its table, or the error of the table.
+fn with_table(
+    level: WalkedSparse,
+    carried: Result<StencilTable, Memory>,
+) -> Result<Reached<WalkedSparse, StencilTable>, Memory>
+    ensures { MatchResult carried
+        (λ table. IsOkAnd result (λ start. start ≡ record { level = level; carried = table }))
+        (λ fault. result ≡ Err fault) }
+{
+    carried.map(|carried| Reached { level, carried })
+}
+
 // Returns level 0 with the table of its own points: the start of the walk.
 fn start_at(alloc: Global, level: Level) -> Result<Reached<WalkedSparse, StencilTable>, Memory>
     requires { IsBase level }
     ensures { IfOk result (λ start. IsStart level start) }
 {
-    let carried = identity(alloc, level.points())?;
-    carried.facts();
+    let points = level.points();
     let level = WalkedSparse::base(alloc, level)?;
-    Ok(Reached { level, carried })
+    let start = with_table(level, identity(alloc, points))?;
+    start.carried.facts();
+    Ok(start)
 }
 
 // Returns the sparse levels of a channel from 0 to `depth`, each with the table of its points. The call counts at most one step for each

@@ -1,17 +1,30 @@
 //! The values of the written points of sparse levels.
 
-ghost use Rattle.std.specs.Prelude.{◌≡◌, ◌+◌, ◌≤◌, [], ◌∷◌, ◌++◌, length, map, IfOk, OnOk};
+ghost use Rattle.std.specs.Prelude.{◌≡◌, ◌+◌, ◌≤◌, [], ◌∷◌, ◌++◌, length, map, Err, IfOk, IsOkAnd, MatchResult, OnOk};
 ghost use Rattle.channel_refine.specs.SparseComposed.{CanValue, CanValueAll, kept_order, valued, valued_level, valued_entries, valued_from, entries_in};
 ghost use Rattle.channel_refine.specs.SparseView.{sparse_rows, all_rows};
 
 use crate::evaluated::evaluate;
 use crate::sparse_rows::evaluate_rows;
+use primvar_refine::Valued;
 use ratio128::{Memory, Primvar, Steps};
-use sparse_level::SparseValues;
+use sparse_level::{SparseFaces, SparseValues};
 use sparse_walk::KeptLevel;
 use std::alloc::Global;
 use std::sync::ledger::Ledger;
 use stencil_apply::StencilTable;
+
+// Returns faces with the values of their points, or the error of the values.
+fn with_faces<P>(
+    faces: SparseFaces,
+    values: Result<Vec<Valued<P>>, Memory>,
+) -> Result<SparseValues<P>, Memory>
+    ensures { MatchResult values
+        (λ found. IsOkAnd result (λ level. level ≡ record { faces = faces; values = found }))
+        (λ fault. result ≡ Err fault) }
+{
+    values.map(|values| SparseValues { faces, values })
+}
 
 // Returns level 0 with the values of its written points.
 fn first_values<P: Primvar<L>, L: Ledger>(
@@ -27,8 +40,8 @@ fn first_values<P: Primvar<L>, L: Ledger>(
     ensures later { steps.old ≤ steps.new }
 {
     let KeptLevel { faces, carried } = level;
-    let values = evaluate_rows(alloc, &carried, order, controls, steps)?;
-    Ok(SparseValues { faces, values })
+    let values = evaluate_rows(alloc, &carried, order, controls, steps);
+    with_faces(faces, values)
 }
 
 // Returns a later level with the values of all its points.
@@ -44,8 +57,8 @@ fn later_values<P: Primvar<L>, L: Ledger>(
     ensures later { steps.old ≤ steps.new }
 {
     let KeptLevel { faces, carried } = level;
-    let values = evaluate(alloc, &carried, controls, steps)?;
-    Ok(SparseValues { faces, values })
+    let values = evaluate(alloc, &carried, controls, steps);
+    with_faces(faces, values)
 }
 
 // Returns a level with the values of its written points. `before` levels come before it, and `first` lists the written points of level 0.
