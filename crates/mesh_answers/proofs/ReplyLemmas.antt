@@ -1,5 +1,5 @@
 -- The obligations of a command at each of its ends.
-use Rattle.std.proofs.Common.{◌≡◌, ℕ, ◌+◌, ◌≤◌, Result, Ok, Err, IsErr, IsErrAnd, IsOkAnd, IfOk, MatchResult, sym, subst}
+use Rattle.std.proofs.Common.{◌≡◌, ℕ, ◌+◌, ◌≤◌, Result, Ok, Err, IsErr, IsErrAnd, IsOkAnd, IfOk, OnOk, MatchResult, sym, subst}
 use Rattle.far_model.specs.Command.{ReadCommand, MakeCommand}
 use Rattle.subdiv_model.specs.ObjMesh.{ObjMesh}
 use Rattle.ratio128.specs.StepsTaken.{StepsTaken}
@@ -19,6 +19,14 @@ failed-steps (Err e) old new least most err later within = record { least = tt; 
 pub any-steps : {T E : Type 0} (r : Result T E) (old new least most : ℕ) → old + least ≤ new → old ≤ new → new ≤ old + most → StepsTaken r old new least most
 any-steps (Ok x) old new least most some later within = record { least = some; most = within; later = later }
 any-steps (Err e) old new least most some later within = record { least = tt; most = within; later = later }
+
+-- a call took the steps of its part, with which it ends well or ends in a fault
+pub good-steps : {T E U F : Type 0} {old new least most : ℕ} (r : Result T E) (x : T) (y : U) → r ≡ Ok x → StepsTaken r old new least most → StepsTaken {T = U} {E = F} (Ok y) old new least most
+good-steps {old = old} {new = new} {least = least} r x y ok taken =
+    record { least = subst (λ r. OnOk r (old + least ≤ new)) ok taken.least; most = taken.most; later = taken.later }
+
+pub bad-steps : {T E U F : Type 0} {old new least most : ℕ} (r : Result T E) (fault : F) → StepsTaken r old new least most → StepsTaken {T = U} {E = F} (Err fault) old new least most
+bad-steps r fault taken = record { least = tt; most = taken.most; later = taken.later }
 
 module _ (command : ReadCommand) (mesh : ObjMesh) (old new : ℕ) (later : old ≤ new) (most : new ≤ old + step_limit command mesh) where
   pub refuses : (r : Result Reply FarFault) (fault : FarFault) → IsErr r → IsErrAnd r (λ g. g ≡ fault) → IsFound (fault_of fault) (refusal_of_mesh command mesh) →

@@ -1,16 +1,19 @@
 //! A mesh refined to a depth, with its texture.
 
-ghost use Rattle.std.specs.Prelude.{◌≡◌};
+ghost use Rattle.std.specs.Prelude.{◌≡◌, ◌+◌, Some, MatchResult};
 ghost use Rattle.far_model.specs.Command.{Refine, IsReadInRange};
-ghost use Rattle.far_model.specs.Answer.{asked_of};
+ghost use Rattle.far_model.specs.Answer.{asked_of, positions_of};
 ghost use Rattle.channel_refine.specs.View.{asked_of_path};
-ghost use Rattle.far_words.specs.View.{by_of_code, refine_of_code};
+ghost use Rattle.far_fault.specs.View.{fault_of};
+ghost use Rattle.far_words.specs.View.{by_of_code, refine_of_code, uv_of_code};
+ghost use Rattle.ratio128.specs.StepsTaken.{StepsTaken};
 ghost use Rattle.mesh_answers.specs.Levels.{IsSmallManifold};
-ghost use Rattle.mesh_answers.specs.Replies.{IsAnswerTo, IsReplyTo};
-ghost use Rattle.mesh_answers.specs.Tracks.{ArePositions, IsTextureOf};
+ghost use Rattle.mesh_answers.specs.Replies.{IsAnswerTo, IsReplyOr, IsReplyTo};
+ghost use Rattle.mesh_answers.specs.StepCounts.{later_faces, position_steps, texture_steps, where_textured};
+ghost use Rattle.mesh_answers.specs.Tracks.{ArePositions, IsBaseTexture, IsPositionFault, IsTextureFault, IsTextureOf};
 
 use crate::tracks::{BaseTexture, BaseTracks, base_tracks};
-use channel_refine::{Path, RefinedChannel, refine_along};
+use channel_refine::{BaseChannel, Path, RefinedChannel, refine_along};
 use far_fault::{FarFault, Track, fault_of_walk};
 use far_text::{MeshForm, RefinedMesh, RefinedTexture, Reply};
 use far_words::{By, RefineOptions};
@@ -68,27 +71,100 @@ pub fn refine<L: Ledger>(
         options.depth,
         steps,
     )?;
+    let refined = positions_at(alloc, mesh, positions, options, steps)?;
+    reply_with(alloc, mesh, refined, texture, options, steps)
+}
+
+// The positions of a mesh at a depth, from their channel.
+fn positions_at<L: Ledger>(
+    alloc: Global,
+    mesh: &RawMesh,
+    base: BaseChannel,
+    options: &RefineOptions,
+    steps: &mut Steps<L>,
+) -> Result<RefinedChannel<Point3>, FarFault>
+    requires range { IsReadInRange (Refine (refine_of_code options.now)) }
+    requires fine { IsSmallManifold options.now.depth mesh.now }
+    requires base { base ≡ positions_of mesh.now }
+    ensures positions { let asked = refine_of_code options.now in MatchResult result (λ positions. ArePositions asked mesh.now positions) (λ fault. IsPositionFault asked mesh.now (fault_of fault)) }
+    ensures steps { let asked = refine_of_code options.now in StepsTaken result steps.old steps.new (position_steps asked.by asked.depth mesh.now) (later_faces asked.depth mesh.now + position_steps asked.by asked.depth mesh.now) }
+{
     mesh.facts();
     let path = path_of(options.by);
     let points = mesh.points();
-    let positions = match refine_along(alloc, positions, points, path, options.depth, steps) {
-        Ok(refined) => refined,
-        Err(fault) => return Err(fault_of_walk(fault, Track::Positions)),
-    };
-    let Some(BaseTexture { base, values }) = texture else {
-        return Ok(reply_of(mesh, options, positions, None));
-    };
+    match refine_along(alloc, base, points, path, options.depth, steps) {
+        Ok(refined) => Ok(refined),
+        Err(fault) => Err(fault_of_walk(fault, Track::Positions)),
+    }
+}
+
+// The texture of a mesh at a depth, from its channel.
+fn texture_at<L: Ledger>(
+    alloc: Global,
+    mesh: &RawMesh,
+    texture: BaseTexture,
+    options: &RefineOptions,
+    steps: &mut Steps<L>,
+) -> Result<RefinedTexture, FarFault>
+    requires range { IsReadInRange (Refine (refine_of_code options.now)) }
+    requires fine { IsSmallManifold options.now.depth mesh.now }
+    requires base { IsBaseTexture (uv_of_code options.now.uv) mesh.now (Some texture) }
+    ensures texture { let asked = refine_of_code options.now in MatchResult result (λ texture. IsTextureOf asked mesh.now (Some texture)) (λ fault. IsTextureFault asked mesh.now (fault_of fault)) }
+    ensures steps { let asked = refine_of_code options.now in StepsTaken result steps.old steps.new (where_textured mesh.now (texture_steps asked mesh.now)) (where_textured mesh.now (later_faces asked.depth mesh.now + texture_steps asked mesh.now)) }
+{
+    mesh.facts();
+    let path = path_of(options.by);
+    let common = mesh.texture_scale();
+    let BaseTexture { base, values } = texture;
     match refine_along(alloc, base, &values, path, options.depth, steps) {
-        Ok(RefinedChannel { level, values }) => {
-            let common = mesh.texture_scale();
-            let texture = RefinedTexture {
-                level,
-                values,
-                common,
-            };
-            Ok(reply_of(mesh, options, positions, Some(texture)))
-        }
+        Ok(RefinedChannel { level, values }) => Ok(RefinedTexture {
+            level,
+            values,
+            common,
+        }),
         Err(fault) => Err(fault_of_walk(fault, Track::Texture)),
+    }
+}
+
+// The reply with the positions of a mesh at a depth, and with its texture there.
+fn textured_reply<L: Ledger>(
+    alloc: Global,
+    mesh: &RawMesh,
+    positions: RefinedChannel<Point3>,
+    texture: BaseTexture,
+    options: &RefineOptions,
+    steps: &mut Steps<L>,
+) -> Result<Reply, FarFault>
+    requires range { IsReadInRange (Refine (refine_of_code options.now)) }
+    requires fine { IsSmallManifold options.now.depth mesh.now }
+    requires positions { ArePositions (refine_of_code options.now) mesh.now positions }
+    requires base { IsBaseTexture (uv_of_code options.now.uv) mesh.now (Some texture) }
+    ensures reply { IsReplyOr (Refine (refine_of_code options.now)) mesh.now result }
+    ensures steps { let asked = refine_of_code options.now in StepsTaken result steps.old steps.new (where_textured mesh.now (texture_steps asked mesh.now)) (where_textured mesh.now (later_faces asked.depth mesh.now + texture_steps asked mesh.now)) }
+{
+    let texture = texture_at(alloc, mesh, texture, options, steps)?;
+    Ok(reply_of(mesh, options, positions, Some(texture)))
+}
+
+// The reply with the positions of a mesh at a depth, and with its texture there if it has one.
+fn reply_with<L: Ledger>(
+    alloc: Global,
+    mesh: &RawMesh,
+    positions: RefinedChannel<Point3>,
+    texture: Option<BaseTexture>,
+    options: &RefineOptions,
+    steps: &mut Steps<L>,
+) -> Result<Reply, FarFault>
+    requires range { IsReadInRange (Refine (refine_of_code options.now)) }
+    requires fine { IsSmallManifold options.now.depth mesh.now }
+    requires positions { ArePositions (refine_of_code options.now) mesh.now positions }
+    requires base { IsBaseTexture (uv_of_code options.now.uv) mesh.now texture }
+    ensures reply { IsReplyOr (Refine (refine_of_code options.now)) mesh.now result }
+    ensures steps { let asked = refine_of_code options.now in StepsTaken result steps.old steps.new (where_textured mesh.now (texture_steps asked mesh.now)) (where_textured mesh.now (later_faces asked.depth mesh.now + texture_steps asked mesh.now)) }
+{
+    match texture {
+        Some(texture) => textured_reply(alloc, mesh, positions, texture, options, steps),
+        None => Ok(reply_of(mesh, options, positions, None)),
     }
 }
 

@@ -53,11 +53,17 @@ fn tracks_from<L: Ledger>(
     ensures steps { StepsTaken result steps.old steps.new 0 (sparse_cut_steps mesh.now (sparse_uv (sparse_of_code options.now) mesh.now)) }
 {
     // This makes the cut mesh before the positions take level 0 over.
-    let texture = sparse_texture(alloc, mesh, &level, options, steps)?;
-    Ok(BaseTracks {
-        positions: position_channel(mesh, level),
-        texture,
-    })
+    match sparse_texture(alloc, mesh, &level, options, steps) {
+        Ok(texture) => Ok(BaseTracks {
+            positions: position_channel(mesh, level),
+            texture,
+        }),
+        Err(fault) => {
+            // The prover proves a named drop once for each type.
+            drop(level);
+            Err(fault)
+        }
+    }
 }
 
 /// The channels of a mesh for its sparse levels.

@@ -159,11 +159,17 @@ fn tracks_from<L: Ledger>(
     ensures steps { StepsTaken result steps.old steps.new 0 (where_textured mesh.now (length mesh.now.faces)) }
 {
     // This makes the cut mesh before the positions take level 0 over.
-    let texture = cut_texture(alloc, mesh, &level, uv, steps)?;
-    Ok(BaseTracks {
-        positions: position_channel(mesh, level),
-        texture,
-    })
+    match cut_texture(alloc, mesh, &level, uv, steps) {
+        Ok(texture) => Ok(BaseTracks {
+            positions: position_channel(mesh, level),
+            texture,
+        }),
+        Err(fault) => {
+            // The prover proves a named drop once for each type.
+            drop(level);
+            Err(fault)
+        }
+    }
 }
 
 /// The channels of a mesh. No level up to the depth has too many faces.
