@@ -34,6 +34,10 @@ channel_steps ByLevel base scheme depth = sum_by (λ k. mask_terms (refined_leve
 abbrev pub position_steps : By → ℕ → ObjMesh → ℕ
 position_steps by depth mesh = channel_steps by (base_level mesh) CatmullClark depth
 
+-- the most steps of refining the positions: one for each later face, and those of the channel
+abbrev pub position_most : RefineOptions → ObjMesh → ℕ
+position_most options mesh = later_faces options.depth mesh + position_steps options.by options.depth mesh
+
 -- the steps of the values of the texture
 abbrev pub texture_steps : RefineOptions → ObjMesh → ℕ
 texture_steps options mesh = channel_steps options.by (cut_level (seams_of options.uv) mesh) (scheme_of options.uv) options.depth
@@ -41,6 +45,13 @@ texture_steps options mesh = channel_steps options.by (cut_level (seams_of optio
 -- these steps if the mesh has texture, else none
 abbrev pub where_textured : ObjMesh → ℕ → ℕ
 where_textured mesh steps = if mesh.has_texture then steps else 0
+
+-- the least and the most steps of refining the texture of a mesh, 0 if it has none
+abbrev pub texture_least : RefineOptions → ObjMesh → ℕ
+texture_least options mesh = where_textured mesh (texture_steps options mesh)
+
+abbrev pub texture_most : RefineOptions → ObjMesh → ℕ
+texture_most options mesh = where_textured mesh (later_faces options.depth mesh + texture_steps options mesh)
 
 -- the least number of steps of `refine`
 abbrev pub refine_least : RefineOptions → ObjMesh → ℕ

@@ -9,7 +9,7 @@ ghost use Rattle.far_words.specs.View.{by_of_code, refine_of_code, uv_of_code};
 ghost use Rattle.ratio128.specs.StepsTaken.{StepsTaken};
 ghost use Rattle.mesh_answers.specs.Levels.{IsSmallManifold};
 ghost use Rattle.mesh_answers.specs.Replies.{IsAnswerTo, IsReplyOr, IsReplyTo};
-ghost use Rattle.mesh_answers.specs.StepCounts.{later_faces, position_steps, texture_steps, where_textured};
+ghost use Rattle.mesh_answers.specs.StepCounts.{position_most, position_steps, texture_least, texture_most};
 ghost use Rattle.mesh_answers.specs.Tracks.{ArePositions, IsBaseTexture, IsPositionFault, IsTextureFault, IsTextureOf};
 
 use crate::tracks::{BaseTexture, BaseTracks, base_tracks};
@@ -87,7 +87,7 @@ fn positions_at<L: Ledger>(
     requires fine { IsSmallManifold options.now.depth mesh.now }
     requires base { base ≡ positions_of mesh.now }
     ensures positions { let asked = refine_of_code options.now in MatchResult result (λ positions. ArePositions asked mesh.now positions) (λ fault. IsPositionFault asked mesh.now (fault_of fault)) }
-    ensures steps { let asked = refine_of_code options.now in StepsTaken result steps.old steps.new (position_steps asked.by asked.depth mesh.now) (later_faces asked.depth mesh.now + position_steps asked.by asked.depth mesh.now) }
+    ensures steps { let asked = refine_of_code options.now in StepsTaken result steps.old steps.new (position_steps asked.by asked.depth mesh.now) (position_most asked mesh.now) }
 {
     mesh.facts();
     let path = path_of(options.by);
@@ -110,7 +110,7 @@ fn texture_at<L: Ledger>(
     requires fine { IsSmallManifold options.now.depth mesh.now }
     requires base { IsBaseTexture (uv_of_code options.now.uv) mesh.now (Some texture) }
     ensures texture { let asked = refine_of_code options.now in MatchResult result (λ texture. IsTextureOf asked mesh.now (Some texture)) (λ fault. IsTextureFault asked mesh.now (fault_of fault)) }
-    ensures steps { let asked = refine_of_code options.now in StepsTaken result steps.old steps.new (where_textured mesh.now (texture_steps asked mesh.now)) (where_textured mesh.now (later_faces asked.depth mesh.now + texture_steps asked mesh.now)) }
+    ensures steps { let asked = refine_of_code options.now in StepsTaken result steps.old steps.new (texture_least asked mesh.now) (texture_most asked mesh.now) }
 {
     mesh.facts();
     let path = path_of(options.by);
@@ -140,7 +140,7 @@ fn textured_reply<L: Ledger>(
     requires positions { ArePositions (refine_of_code options.now) mesh.now positions }
     requires base { IsBaseTexture (uv_of_code options.now.uv) mesh.now (Some texture) }
     ensures reply { IsReplyOr (Refine (refine_of_code options.now)) mesh.now result }
-    ensures steps { let asked = refine_of_code options.now in StepsTaken result steps.old steps.new (where_textured mesh.now (texture_steps asked mesh.now)) (where_textured mesh.now (later_faces asked.depth mesh.now + texture_steps asked mesh.now)) }
+    ensures steps { let asked = refine_of_code options.now in StepsTaken result steps.old steps.new (texture_least asked mesh.now) (texture_most asked mesh.now) }
 {
     let texture = texture_at(alloc, mesh, texture, options, steps)?;
     Ok(reply_of(mesh, options, positions, Some(texture)))
@@ -160,7 +160,7 @@ fn reply_with<L: Ledger>(
     requires positions { ArePositions (refine_of_code options.now) mesh.now positions }
     requires base { IsBaseTexture (uv_of_code options.now.uv) mesh.now texture }
     ensures reply { IsReplyOr (Refine (refine_of_code options.now)) mesh.now result }
-    ensures steps { let asked = refine_of_code options.now in StepsTaken result steps.old steps.new (where_textured mesh.now (texture_steps asked mesh.now)) (where_textured mesh.now (later_faces asked.depth mesh.now + texture_steps asked mesh.now)) }
+    ensures steps { let asked = refine_of_code options.now in StepsTaken result steps.old steps.new (texture_least asked mesh.now) (texture_most asked mesh.now) }
 {
     match texture {
         Some(texture) => textured_reply(alloc, mesh, positions, texture, options, steps),
