@@ -126,7 +126,7 @@ module _ (level : Level) (masks : List Mask) (table : Table) (is : IsTable table
         short = omega (arith, total-bound, can.short);
         each = row.is.each;
         inside = subst (λ n. All (λ (share : Share). share.0 < n) shares) (sym can.each) row.is.inside;
-        within = λ i d below. omega (arith, mul-le-mul_right (greatest_amount (get_or controls i d)) total-bound, can.within i d below);
+        within = λ i d below. omega (arith, mul-le-mul_right (greatest_amount (get_or controls i d)) total-bound, can.room i d below);
       }
 
       -- there is a control
