@@ -124,7 +124,7 @@ fn sink_of(alloc: Global, writes: &Writes) -> Result<MemSink, Memory>
     MemSink::in_pieces(alloc, room, vec![in alloc; call]?, vec![in alloc; size]?)
 }
 
-fn expect_ended(
+fn expect_outcome(
     rt: &(impl Abort + AllocGlobal),
     words: &Vec<String>,
     source: &mut MemSource,
@@ -151,7 +151,7 @@ fn expect_written(
     let (_, writes, _) = calls;
     assert!(rt; 0 < writes.1);
     let mut sink = sink_of(rt.alloc(), writes)?;
-    expect_ended(rt, words, source, &mut sink, calls, want)
+    expect_outcome(rt, words, source, &mut sink, calls, want)
 }
 
 fn expect_read(
